@@ -1,0 +1,17 @@
+-- The halves are summed apart.
+use mathlib.Core.Path.{sym}
+use borrow.Author.Needs.{needs}
+use Rattle.blocks.specs.Xor.{_⊕_}
+use Rattle.blocks.specs.Block.{value}
+use Rattle.blocks.proofs.Xor.{xor-parts}
+use Rattle.blocks.proofs.block.Block.xor.Statement.{statement}
+use Rattle.blocks.proofs.block.Block.xor.Tie as tie
+
+returns : tie.Need-returns
+unfolding value _⊕_
+returns c =
+    let a = c .before .before .before .before .args in
+    sym (xor-parts 64 (a .self .hi) (a .other .hi) (a .self .lo) (a .other .lo) (search needs) (search needs))
+
+pub xor-spec : {M : Type 1} → statement M
+xor-spec = tie.close (tie.spec returns)

@@ -1,0 +1,34 @@
+-- The shifted block, plus the polynomial where the bit that fell out is 1.
+use borrow.Author.Needs.{needs}
+use mathlib.Core.Path.{_∙_, ap, ap₂, sym}
+use Prim.Native.Nat.{ℕ, _^_, _<_}
+use Rattle.blocks.specs.Xor.{_⊕_}
+use Rattle.blocks.specs.Field.{times01, timesX}
+use Rattle.blocks.specs.Block.{value}
+use Rattle.blocks.proofs.Halves.{halves-below, halves-reduced, fallen}
+use Rattle.blocks.proofs.field.times_x.Statement.{statement}
+use Rattle.blocks.proofs.field.times_x.Tie as tie
+
+shifted-requires : tie.Need-shifted-requires
+shifted-requires c κs = search needs
+
+top-requires : tie.Need-top-requires
+top-requires c κs = search needs
+
+masked-requires : tie.Need-masked-requires
+masked-requires c κs = c .top .ensures .1
+
+returns : tie.Need-returns
+unfolding value timesX _⊕_
+returns c =
+    let a = c .before .before .before .before .args .a in
+    let s = c .before .before .before .shifted in
+    let m = c .before .masked in
+    let v : value a < 2 ^ 128 = halves-below 64 (search needs) (search needs) in
+    halves-reduced 64 (s .result .hi) (s .result .lo) (m .result) (search needs) (search needs)
+    ∙ ap₂ _⊕_
+    (m .ensures ∙ ap (λ (d : ℕ). times01 d 0x87) (c .before .before .top .ensures .0 ∙ sym (fallen 127 (value a) v)))
+    (s .ensures)
+
+pub times-x-spec : {M : Type 1} → statement M
+times-x-spec = tie.close (tie.spec shifted-requires top-requires masked-requires returns)

@@ -1,0 +1,5 @@
+pub mod Xor
+pub mod Bytes
+pub mod Field
+pub mod One
+pub mod Block

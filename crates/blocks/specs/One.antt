@@ -1,0 +1,19 @@
+-- "Exactly one", said twice: as a record, and as a count.
+use Prim.Native.Nat.{ℕ, zero, suc, _+_}
+use mathlib.Core.Path.{_≡_}
+use mathlib.Core.Bool.{Bool, true, false}
+
+-- Among those that have P, a passes the test, and each that passes is a.
+pub record ExactlyOne {A : Type 0} (P : A → Type 0) (test : A → Bool) (a : A) : Type 0 where
+  pub among : P a
+  pub passes : test a ≡ true
+  pub only : (b : A) → P b → test b ≡ true → b ≡ a
+
+unfoldable pub tally : Bool → ℕ
+tally true = 1
+tally false = 0
+
+-- How many numbers below n pass the test.
+unfoldable pub count : (ℕ → Bool) → ℕ → ℕ
+count test zero = 0
+count test (suc n) = tally (test n) + count test n

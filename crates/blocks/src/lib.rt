@@ -1,0 +1,3 @@
+// Byte strings as blocks, and the field of 2^128 elements.
+pub mod block;
+pub mod field;

@@ -1,0 +1,14 @@
+"""What all parts share of the line format of the program under test.
+
+A line is a case. Its fields are separated by exactly one space. It has at
+most LONGEST characters before its line feed. A line that is not understood,
+or is longer, answers NO once.
+"""
+
+LONGEST = 16384
+NO = b"no"
+
+
+def line(*fields):
+    """The fields of a case as one line of bytes, without its line feed."""
+    return " ".join(fields).encode("ascii")

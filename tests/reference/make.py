@@ -1,0 +1,65 @@
+"""Writes the cases and their answers, from a program written apart.
+
+    python3 tests/reference/make.py          writes crates/vectors/stdin
+                                             and crates/vectors/stdout
+    python3 tests/reference/make.py --check  writes nothing, and exits with 1
+                                             if the two files differ from what
+                                             would be written
+
+A part is a module with check(), which asserts the part's worked examples,
+and cases(), which yields pairs of a line and its answer, both as bytes
+without a line feed. A new part is a module of its own and an entry in PARTS.
+"""
+
+import argparse
+import pathlib
+import sys
+
+sys.dont_write_bytecode = True  # --check is to write nothing at all
+
+import cases_field  # noqa: E402
+from lines import NO  # noqa: E402
+
+PARTS = [cases_field]
+
+FOLDER = pathlib.Path(__file__).resolve().parents[2] / "crates" / "vectors"
+
+
+def contents():
+    """The bytes of the two files, by name."""
+    lines, answers = [], []
+    for part in PARTS:
+        part.check()
+        for line, answer in part.cases():
+            assert b"\n" not in line + answer
+            lines.append(line)
+            answers.append(answer)
+    # The last line is a good one and lacks its line feed; its answer has it.
+    assert answers[-1] != NO
+    return {
+        "stdin": b"\n".join(lines),
+        "stdout": b"".join(answer + b"\n" for answer in answers),
+    }
+
+
+def main():
+    parser = argparse.ArgumentParser(description="Makes the test vectors.")
+    parser.add_argument("--check", action="store_true",
+                        help="write nothing; exit with 1 on a difference")
+    check_only = parser.parse_args().check
+
+    differs = False
+    for name, wanted in contents().items():
+        path = FOLDER / name
+        if not check_only:
+            FOLDER.mkdir(parents=True, exist_ok=True)
+            path.write_bytes(wanted)
+        elif not path.is_file() or path.read_bytes() != wanted:
+            print(f"crates/vectors/{name} is not what make.py writes",
+                  file=sys.stderr)
+            differs = True
+    return 1 if differs else 0
+
+
+if __name__ == "__main__":
+    sys.exit(main())
