@@ -7,13 +7,17 @@ use native.Mathlib.Omega.{arith}
 use lib.Arith.{digits-lt, digits-div, digits-mod, mod-mul}
 use lib.Pow.{pow-pos, pow-add, high, mod-pow-add, shr-shr}
 use Rattle.blocks.specs.Xor.{_⊕_}
-use Rattle.blocks.specs.Field.{times01, timesX}
+use Rattle.blocks.specs.Block.{value}
+use Rattle.blocks.specs.declared.block.Block.{Block}
 use Rattle.blocks.proofs.Xor.{xor-comm, xor-disjoint, xor-parts, xor-zero}
-use Rattle.blocks.proofs.Ring.{times01-below}
 
 -- a number of w digits above a number of w digits has w + w digits
-pub halves-below : (w : ℕ) {hi lo : ℕ} → hi < 2 ^ w → lo < 2 ^ w → hi * 2 ^ w + lo < 2 ^ (w + w)
+halves-below : (w : ℕ) {hi lo : ℕ} → hi < 2 ^ w → lo < 2 ^ w → hi * 2 ^ w + lo < 2 ^ (w + w)
 halves-below w {hi} {lo} hh hl = rw (pow-add 2 w w) (digits-lt hh hl)
+
+pub value-below : (b : Block) → b .hi < 2 ^ 64 → b .lo < 2 ^ 64 → value b < 2 ^ 128
+unfolding value
+value-below b h l = halves-below 64 h l
 
 pub halves-top : (j w hi : ℕ) {lo : ℕ} → lo < 2 ^ w → hi / 2 ^ j ≡ (hi * 2 ^ w + lo) / 2 ^ (w + j)
 halves-top j w hi {lo} h = sym (sym (shr-shr (hi * 2 ^ w + lo) w j) ∙ ap (λ (x : ℕ). x / 2 ^ j) (high hi w h))

@@ -1,5 +1,10 @@
 pub mod Xor
+pub mod Bytes
+pub mod Place
+pub mod One
 pub mod Ring
 pub mod Horner
 pub mod Halves
 pub mod Steps
+pub mod Examples
+pub mod Theorems

@@ -3,3 +3,4 @@ pub mod Bytes
 pub mod Field
 pub mod One
 pub mod Block
+pub mod Theorems

@@ -1,7 +1,8 @@
 // The field of 2^128 elements: blocks with x^128 = x^7 + x^2 + x + 1.
 ghost use mathlib.Core.Path.{_≡_};
 ghost use Prim.Native.Nat.{_*_, _/_, _%_, _^_, _<_};
-ghost use Rattle.blocks.specs.Field.{times01, xTimes, _•_};
+ghost use Rattle.blocks.specs.Bytes.{blocks};
+ghost use Rattle.blocks.specs.Field.{times01, xTimes, _•_, keyedSum};
 ghost use Rattle.blocks.specs.Block.{value};
 use crate::block::Block;
 
@@ -57,11 +58,25 @@ fn times_bit(bit: u64, a: Block) -> Block
 pub fn product(a: Block, b: Block) -> Block
     ensures { λ r. ⌜ value r ≡ value a • value b ⌝ }
 {
-    let mut sum = Block { hi: 0, lo: 0 };
+    let mut sum = Block::ZERO;
     let mut rest = b;
     for _ in 0..128u32 {
         sum = times_x(sum).xor(times_bit(top(rest), a));
         rest = shifted(rest);
+    }
+    sum
+}
+
+// The sum of the blocks of `data`, the last padded, each times its own power of the key: 1 for the last block, one more for each
+// before it. By Horner's rule.
+pub fn power_sum(key: Block, data: &[u8]) -> Block
+    ensures { λ r. ⌜ value r ≡ keyedSum (value key) (blocks (now («data» .entry))) ⌝ }
+{
+    let mut sum = Block::ZERO;
+    let mut at = 0;
+    while at < data.len() {
+        sum = product(sum.xor(Block::read(data, at)), key);
+        at += 16;
     }
     sum
 }

@@ -7,7 +7,7 @@ use borrow.Author.Needs.{needs}
 use Rattle.blocks.specs.Xor.{_⊕_}
 use Rattle.blocks.specs.Field.{times01, timesX, productN, product}
 use Rattle.blocks.specs.Block.{value}
-use Rattle.blocks.proofs.Halves.{halves-below}
+use Rattle.blocks.proofs.Halves.{value-below}
 use Rattle.blocks.proofs.Steps.{product-step, rest-step}
 use Rattle.blocks.proofs.field.product.Statement.{statement}
 use Rattle.blocks.proofs.field.product.Tie as tie
@@ -25,7 +25,7 @@ loop-holds : tie.Need-loop-holds Inv-loop μ-loop
 unfolding value productN
 loop-holds c =
     let b = c .args .b in
-    (omega arith, refl, sym (ap (λ (x : ℕ). x % 2 ^ 128) (mul-one (value b)) ∙ mod-eq-of-lt (halves-below 64 (search needs) (search needs))))
+    (omega arith, refl, sym (ap (λ (x : ℕ). x % 2 ^ 128) (mul-one (value b)) ∙ mod-eq-of-lt (value-below b (search needs) (search needs))))
 
 times-x-requires : tie.Need-times-x-requires Inv-loop μ-loop
 times-x-requires c κs = search needs

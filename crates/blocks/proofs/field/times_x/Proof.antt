@@ -5,7 +5,7 @@ use Prim.Native.Nat.{ℕ, _^_, _<_}
 use Rattle.blocks.specs.Xor.{_⊕_}
 use Rattle.blocks.specs.Field.{times01, timesX}
 use Rattle.blocks.specs.Block.{value}
-use Rattle.blocks.proofs.Halves.{halves-below, halves-reduced, fallen}
+use Rattle.blocks.proofs.Halves.{value-below, halves-reduced, fallen}
 use Rattle.blocks.proofs.field.times_x.Statement.{statement}
 use Rattle.blocks.proofs.field.times_x.Tie as tie
 
@@ -24,7 +24,7 @@ returns c =
     let a = c .before .before .before .before .args .a in
     let s = c .before .before .before .shifted in
     let m = c .before .masked in
-    let v : value a < 2 ^ 128 = halves-below 64 (search needs) (search needs) in
+    let v : value a < 2 ^ 128 = value-below a (search needs) (search needs) in
     halves-reduced 64 (s .result .hi) (s .result .lo) (m .result) (search needs) (search needs)
     ∙ ap₂ _⊕_
     (m .ensures ∙ ap (λ (d : ℕ). times01 d 0x87) (c .before .before .top .ensures .0 ∙ sym (fallen 127 (value a) v)))

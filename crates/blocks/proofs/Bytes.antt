@@ -1,0 +1,202 @@
+-- Laws of byte strings: numbers and bytes undo each other, exclusive or goes byte by byte, and blocks are cut by 16.
+-- Assumes nothing.
+use Prim.Native.Nat.{ℕ, zero, suc, _+_, _-_, _*_, _/_, _%_, _^_, _≤_, _<_}
+use mathlib.Core.Path.{_≡_, refl, sym, ap, _∙_}
+use mathlib.Core.List.{List, [], _∷_, _++_}
+use native.Mathlib.Nat.{zero-add, suc-add, add-assoc, add-mul, mul-assoc, mul-comm, mul-zero, mul-suc, pow-zero, pow-suc, pow-succ', one-le-pow, sub-zero, suc-sub-suc, le-refl, mod-eq-of-lt, div-add-mod', div-div-eq-div-mul, mul-add-div-right, mul-add-mod-self-right}
+use native.Mathlib.Numerals.{one-add}
+use native.Mathlib.Omega.{arith}
+use lib.Arith.{digits-lt, digits-div, mod-mul}
+use lib.Pow.{pow-add, pow-pos}
+use lib.ListN.{length, getD, take, drop, replicate, length-append, length-drop, length-replicate, List·getD-eq-default}
+use lib.Seq.{getD-drop, drop-drop}
+use Rattle.blocks.specs.Xor.{_⊕_, xorBytes}
+use Rattle.blocks.specs.Bytes.{Below, Bytes, number, bytes, pad, block, cut, blocks}
+use Rattle.blocks.proofs.Xor.{xor-cancel-right, xor-shr, xor-mod}
+
+-- Entries below n, also past the end.
+pub below-pos : {n : ℕ} (s : List ℕ) → Below n s → 0 < n
+below-pos s h = rw (List·getD-eq-default s 0 (le-refl (length s))) at (h (length s))
+
+pub below-append : {n : ℕ} (s t : List ℕ) → Below n s → Below n t → Below n (s ++ t)
+below-append [] t h k i = k i
+below-append (a ∷ s) t h k zero = h 0
+below-append (a ∷ s) t h k (suc i) = below-append s t (λ j. h (suc j)) k i
+
+pub below-take : {n : ℕ} (m : ℕ) (s : List ℕ) → Below n s → Below n (take m s)
+below-take zero s h i = below-pos s h
+below-take (suc m) [] h i = h 0
+below-take (suc m) (a ∷ s) h zero = h 0
+below-take (suc m) (a ∷ s) h (suc i) = below-take m s (λ j. h (suc j)) i
+
+pub below-drop : {n : ℕ} (m : ℕ) (s : List ℕ) → Below n s → Below n (drop m s)
+below-drop m s h i = rw getD-drop (h (m + i))
+
+pub below-zeros : {n : ℕ} (m : ℕ) → 0 < n → Below n (replicate m 0)
+below-zeros zero h i = h
+below-zeros (suc m) h zero = h
+below-zeros (suc m) h (suc i) = below-zeros m h i
+
+-- Numbers and bytes.
+pos : (n : ℕ) → 0 < 256 ^ n
+pos n = one-le-pow n 256 (omega arith)
+
+pub length-bytes : (n a : ℕ) → length (bytes n a) ≡ n
+unfolding bytes
+length-bytes zero a = refl
+length-bytes (suc n) a = ap suc (length-bytes n a)
+
+pub bytes-below : (n a : ℕ) → Bytes (bytes n a)
+unfolding bytes
+bytes-below zero a i = omega arith
+bytes-below (suc n) a zero = omega arith
+bytes-below (suc n) a (suc i) = bytes-below n a i
+
+pub number-below : (s : List ℕ) → Bytes s → number s < 256 ^ length s
+unfolding number
+number-below [] h = omega arith
+number-below (a ∷ s) h = rw pow-succ' (digits-lt (h 0) (number-below s (λ i. h (suc i))))
+
+pub number-append : (s t : List ℕ) → number (s ++ t) ≡ number s * 256 ^ length t + number t
+unfolding number
+number-append [] t = omega arith
+number-append (a ∷ s) t =
+    rw (length-append s t, pow-add, number-append s t) (simp (add-mul, mul-assoc, add-assoc))
+
+pub number-bytes : (n a : ℕ) → number (bytes n a) ≡ a % 256 ^ n
+unfolding number bytes
+number-bytes zero a = omega arith
+number-bytes (suc n) a = rw (length-bytes n a, number-bytes n a, pow-succ' 256 n, mod-mul a (pos 1) (pos n))
+
+-- What lies above n bytes is cut.
+pub bytes-above : (n q a : ℕ) → bytes n (q * 256 ^ n + a) ≡ bytes n a
+unfolding bytes
+bytes-above zero q a = refl
+bytes-above (suc n) q a =
+    rw (pow-succ', ← mul-assoc, bytes-above n (q * 256) a, mul-add-div-right (pos n), mul-add-mod-self-right)
+
+pub bytes-mod : (n a : ℕ) → bytes n (a % 256 ^ n) ≡ bytes n a
+bytes-mod n a = sym (bytes-above n (a / 256 ^ n) (a % 256 ^ n)) ∙ ap (bytes n) (div-add-mod' a (256 ^ n))
+
+pub bytes-number : (s : List ℕ) → Bytes s → bytes (length s) (number s) ≡ s
+unfolding number bytes
+bytes-number [] h = refl
+bytes-number (a ∷ s) h =
+    let r = number-below s (λ i. h (suc i)) in
+    rw (digits-div a r, mod-eq-of-lt (h 0), bytes-above (length s) a (number s), bytes-number s (λ i. h (suc i)))
+
+pub bytes-append : (m n a : ℕ) → bytes (m + n) a ≡ bytes m (a / 256 ^ n) ++ bytes n a
+unfolding bytes
+bytes-append zero n a = rw zero-add
+bytes-append (suc m) n a = rw (suc-add, bytes-append m n a, div-div-eq-div-mul, pow-add, mul-comm (256 ^ m))
+
+-- Exclusive or, byte by byte.
+pub pow-mul : (a k n : ℕ) → (a ^ k) ^ n ≡ a ^ (k * n)
+pow-mul a k zero = rw (pow-zero, mul-zero, pow-zero)
+pow-mul a k (suc n) = rw (pow-suc, pow-mul a k n, mul-suc, pow-add)
+
+pub bytes-xor : (n a b : ℕ) → bytes n (a ⊕ b) ≡ xorBytes (bytes n a) (bytes n b)
+unfolding bytes xorBytes
+bytes-xor zero a b = refl
+bytes-xor (suc n) a b = rw (bytes-xor n a b, pow-mul 2 8 n, xor-shr (8 * n) a b, xor-mod 8 (a / 2 ^ (8 * n)) (b / 2 ^ (8 * n)))
+
+pub length-xorBytes : (s t : List ℕ) → length (xorBytes s t) ≡ length s
+unfolding xorBytes
+length-xorBytes [] t = refl
+length-xorBytes (a ∷ s) [] = refl
+length-xorBytes (a ∷ s) (b ∷ t) = ap suc (length-xorBytes s t)
+
+pub xorBytes-cancel : (s t : List ℕ) → xorBytes (xorBytes s t) t ≡ s
+unfolding xorBytes
+xorBytes-cancel [] t = refl
+xorBytes-cancel (a ∷ s) [] = refl
+xorBytes-cancel (a ∷ s) (b ∷ t) = rw (xor-cancel-right a b, xorBytes-cancel s t)
+
+pub take-xorBytes : (n : ℕ) (s t : List ℕ) → take n (xorBytes s t) ≡ xorBytes (take n s) t
+unfolding xorBytes
+take-xorBytes zero s t = refl
+take-xorBytes (suc n) [] t = refl
+take-xorBytes (suc n) (a ∷ s) [] = refl
+take-xorBytes (suc n) (a ∷ s) (b ∷ t) = rw (take-xorBytes n s t)
+
+-- The first n entries, 0 past the end: what a block is made of.
+unfoldable pub padded : ℕ → List ℕ → List ℕ
+padded zero s = []
+padded (suc n) s = getD s 0 0 ∷ padded n (drop 1 s)
+
+pub length-padded : (n : ℕ) (s : List ℕ) → length (padded n s) ≡ n
+unfolding padded
+length-padded zero s = refl
+length-padded (suc n) s = ap suc (length-padded n (drop 1 s))
+
+pub padded-below : {k : ℕ} (n : ℕ) (s : List ℕ) → Below k s → Below k (padded n s)
+unfolding padded
+padded-below zero s h i = below-pos s h
+padded-below (suc n) s h zero = h 0
+padded-below (suc n) s h (suc i) = padded-below n (drop 1 s) (below-drop 1 s h) i
+
+pub padded-suc : (n : ℕ) (s : List ℕ) → padded (suc n) s ≡ padded n s ++ (getD s n 0 ∷ [])
+unfolding padded
+padded-suc zero s = refl
+padded-suc (suc n) s = rw (padded-suc n (drop 1 s), getD-drop 1 s n 0, one-add)
+
+pub padded-add : (m n : ℕ) (s : List ℕ) → padded (m + n) s ≡ padded m s ++ padded n (drop m s)
+unfolding padded
+padded-add zero n s = rw zero-add
+padded-add (suc m) n s = rw (suc-add, padded-add m n (drop 1 s), drop-drop m 1 s, one-add)
+
+padded-nil : (n : ℕ) → replicate n 0 ≡ padded n []
+unfolding padded
+padded-nil zero = refl
+padded-nil (suc n) = rw (padded-nil n)
+
+take-zeros : (n : ℕ) (s : List ℕ) → take n s ++ replicate (n - length (take n s)) 0 ≡ padded n s
+unfolding padded
+take-zeros zero s = refl
+take-zeros (suc n) [] = rw sub-zero (padded-nil (suc n))
+take-zeros (suc n) (a ∷ s) = rw (suc-sub-suc, take-zeros n s)
+
+pub block-padded : (s : List ℕ) → block s ≡ number (padded 16 s)
+unfolding block pad
+block-padded s = ap number (take-zeros 16 s)
+
+pub length-pad : (s : List ℕ) → length s ≤ 16 → length (pad s) ≡ 16
+unfolding pad
+length-pad s h = simp (length-append, length-replicate) (omega arith)
+
+pub pad-below : {n : ℕ} (s : List ℕ) → Below n s → Below n (pad s)
+unfolding pad
+pad-below s h = below-append s (replicate (16 - length s) 0) h (below-zeros (16 - length s) (below-pos s h))
+
+pub block-below : (s : List ℕ) → Bytes s → block s < 2 ^ 128
+block-below s h = rw (block-padded s) (rw length-padded at (number-below (padded 16 s) (padded-below 16 s h)))
+
+-- A string's blocks.
+pub blocks-nil : blocks [] ≡ []
+unfolding blocks cut
+blocks-nil = refl
+
+pub blocks-cons : (s : List ℕ) → 0 < length s → blocks s ≡ block s ∷ blocks (drop 16 s)
+unfolding blocks cut
+blocks-cons s h =
+    let e : (length s + 15) / 16 ≡ suc ((length s - 16 + 15) / 16) = omega arith in
+    rw (e, length-drop)
+
+length-cut : (m : ℕ) (s : List ℕ) → length (cut m s) ≡ m
+unfolding cut
+length-cut zero s = refl
+length-cut (suc m) s = ap suc (length-cut m (drop 16 s))
+
+pub length-blocks : (s : List ℕ) → length (blocks s) ≡ (length s + 15) / 16
+unfolding blocks
+length-blocks s = length-cut ((length s + 15) / 16) s
+
+cut-below : (m : ℕ) (s : List ℕ) → Bytes s → Below (2 ^ 128) (cut m s)
+unfolding cut
+cut-below zero s h i = pow-pos 128
+cut-below (suc m) s h zero = block-below s h
+cut-below (suc m) s h (suc i) = cut-below m (drop 16 s) (below-drop 16 s h) i
+
+pub blocks-below : (s : List ℕ) → Bytes s → Below (2 ^ 128) (blocks s)
+unfolding blocks
+blocks-below s h = cut-below ((length s + 15) / 16) s h

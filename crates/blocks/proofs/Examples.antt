@@ -1,0 +1,37 @@
+-- 01's worked examples of the two fields: what the checker computes from the definitions, and two laws.
+-- Assumes nothing.
+use mathlib.Core.Path.{_≡_, refl}
+use Prim.Native.Nat.{ℕ, _*_, _^_, _<_}
+use lib.Dec.{lit<}
+use Rattle.blocks.specs.Xor.{_⊕_}
+use Rattle.blocks.specs.Field.{times01, timesX, productN, product, xTimes, _•_, Ring}
+use Rattle.blocks.proofs.Ring.{ring}
+
+-- P1: x times 1 is 2. P2: x times the block 80 then fifteen 00 is 87. P3: that block times 2 is 87.
+pub p1 : xTimes 1 ≡ 2
+unfolding timesX times01 _⊕_
+p1 = refl
+
+pub p2 : xTimes (0x80 * 256 ^ 15) ≡ 0x87
+unfolding timesX times01 _⊕_
+p2 = refl
+
+pub p3 : (0x80 * 256 ^ 15) • 2 ≡ 0x87
+unfolding product productN timesX times01 _⊕_
+p3 = refl
+
+-- P4: any block times 0 is 0. P5: any block times 1 is itself.
+pub p4 : (a : ℕ) → a • 0 ≡ 0
+p4 = ring 128 0x87 (lit< tt) (lit< tt) .zero-right
+
+pub p5 : (a : ℕ) → a < 2 ^ 128 → a • 1 ≡ a
+p5 = ring 128 0x87 (lit< tt) (lit< tt) .one-right
+
+-- P6: in AES's field of bytes 57 times 83 is c1. P7: 57 times 2 is ae.
+pub p6 : product 8 0x1b 0x57 0x83 ≡ 0xc1
+unfolding product productN timesX times01 _⊕_
+p6 = refl
+
+pub p7 : product 8 0x1b 0x57 2 ≡ 0xae
+unfolding product productN timesX times01 _⊕_
+p7 = refl

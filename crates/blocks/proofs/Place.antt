@@ -1,0 +1,105 @@
+-- Bytes at a place of a string: what `Block::read` and `Block::write` go by.
+-- Assumes nothing.
+use Prim.Native.Nat.{ℕ, zero, suc, _+_, _-_, _*_, _/_, _%_, _^_, _≤_, _<_}
+use mathlib.Core.Path.{_≡_}
+use mathlib.Core.List.{List, [], _∷_, _++_}
+use native.Mathlib.Nat.{sub-zero, zero-add, add-suc, pow-suc, div-div-eq-div-mul, add-zero, zero-sub, suc-sub-suc, suc-add, pow-le-pow-right, lt-of-lt-of-le}
+use native.Mathlib.Numerals.{add-one}
+use native.Mathlib.Omega.{arith}
+use lib.Arith.{digits-div}
+use lib.ListN.{length, getD, drop, set, take-append-drop, length-set}
+use lib.Seq.{getD-drop, drop-drop, take-nil, drop-nil, set-out, set-comm}
+use Rattle.blocks.specs.Bytes.{Bytes, number, bytes, block, overwrite}
+use Rattle.blocks.proofs.Bytes.{bytes-append, bytes-above, number-below, number-append, padded, length-padded, padded-below, padded-suc, padded-add, block-padded, below-drop}
+
+-- Reading one byte more.
+pub number-next : (n at : ℕ) (s : List ℕ) → number (padded (n + 1) (drop at s)) ≡ number (padded n (drop at s)) * 256 + getD s (at + n) 0
+unfolding number
+number-next n at s = rw (add-one, padded-suc n (drop at s), number-append, getD-drop) (omega arith)
+
+pub number-fits : (n m at : ℕ) (s : List ℕ) → Bytes s → n ≤ m → number (padded n (drop at s)) < 256 ^ m
+number-fits n m at s h l =
+    lt-of-lt-of-le
+    (rw length-padded at (number-below (padded n (drop at s)) (padded-below n (drop at s) (below-drop at s h))))
+    (pow-le-pow-right (omega arith) l)
+
+-- A block is its two halves, and each is the high half of the block at its place.
+module _ (at : ℕ) (s : List ℕ) where
+  halves : block (drop at s) ≡ number (padded 8 (drop at s)) * 2 ^ 64 + number (padded 8 (drop (at + 8) s))
+  halves = rw (block-padded, padded-add 8 8 (drop at s), number-append, length-padded, drop-drop)
+
+  pub high-half : Bytes s → block (drop at s) / 2 ^ 64 ≡ number (padded 8 (drop at s))
+  high-half h = rw halves (digits-div (number (padded 8 (drop at s))) (number-fits 8 8 (at + 8) s h (omega arith)))
+
+pub join-halves : (at : ℕ) (s : List ℕ) → Bytes s
+    → block (drop at s) / 2 ^ 64 * 2 ^ 64 + block (drop (at + 8) s) / 2 ^ 64 ≡ block (drop at s)
+join-halves at s h = rw (high-half at s h, high-half (at + 8) s h, halves at s)
+
+-- Writing one byte more, at the place before: past the end `set` does nothing.
+pub overwrite-nil : (i : ℕ) (s : List ℕ) → overwrite i [] s ≡ s
+unfolding overwrite
+overwrite-nil i s = rw (take-nil, add-zero, take-append-drop)
+
+overwrite-empty : (i : ℕ) (t : List ℕ) → overwrite i t [] ≡ []
+unfolding overwrite
+overwrite-empty i t = rw (take-nil, zero-sub, drop-nil)
+
+overwrite-skip : (i : ℕ) (t : List ℕ) (a : ℕ) (s : List ℕ) → overwrite (suc i) t (a ∷ s) ≡ a ∷ overwrite i t s
+unfolding overwrite
+overwrite-skip i t a s = rw (suc-sub-suc, suc-add)
+
+overwrite-front : (b : ℕ) (t : List ℕ) (a : ℕ) (s : List ℕ) → overwrite 0 (b ∷ t) (a ∷ s) ≡ b ∷ overwrite 0 t s
+unfolding overwrite
+overwrite-front b t a s = simp (sub-zero, zero-add)
+
+overwrite-cons : (i b : ℕ) (t s : List ℕ) → overwrite i (b ∷ t) s ≡ set (overwrite (suc i) t s) i b
+overwrite-cons i b t [] = rw (overwrite-empty i (b ∷ t), overwrite-empty (suc i) t)
+overwrite-cons zero b t (a ∷ s) = rw (overwrite-front b t a s, overwrite-skip 0 t a s)
+overwrite-cons (suc i) b t (a ∷ s) = rw (overwrite-skip i (b ∷ t) a s, overwrite-skip (suc i) t a s, overwrite-cons i b t s)
+
+pub length-overwrite : (i : ℕ) (t s : List ℕ) → length (overwrite i t s) ≡ length s
+length-overwrite i [] s = rw overwrite-nil
+length-overwrite i (b ∷ t) s = rw (overwrite-cons i b t s, length-set, length-overwrite (suc i) t s)
+
+pub overwrite-past : (i : ℕ) (t s : List ℕ) → length s ≤ i → overwrite i t s ≡ s
+overwrite-past i [] s h = overwrite-nil i s
+overwrite-past i (b ∷ t) s h =
+    rw (overwrite-cons i b t s, overwrite-past (suc i) t s (omega arith), set-out s i b)
+
+overwrite-set : (i b j : ℕ) (t s : List ℕ) → i < j → set (overwrite j t s) i b ≡ overwrite j t (set s i b)
+overwrite-set i b j [] s h = rw (overwrite-nil j s, overwrite-nil j (set s i b))
+overwrite-set i b j (c ∷ t) s h =
+    rw (
+      overwrite-cons j c t s,
+      set-comm (overwrite (suc j) t s) j i c b (λ e. omega arith),
+      overwrite-set i b (suc j) t s (omega arith),
+      overwrite-cons j c t (set s i b),
+    )
+
+pub overwrite-append : (i : ℕ) (t u s : List ℕ) → overwrite i (t ++ u) s ≡ overwrite (i + length t) u (overwrite i t s)
+overwrite-append i [] u s = rw (add-zero, overwrite-nil i s)
+overwrite-append i (b ∷ t) u s =
+    rw (
+      overwrite-cons i b (t ++ u) s,
+      overwrite-append (suc i) t u s,
+      overwrite-set i b (suc i + length t) u (overwrite (suc i) t s) (omega arith),
+      overwrite-cons i b t s,
+      add-suc,
+      suc-add,
+    )
+
+-- The bytes of a number of two parts.
+pub bytes-join : (m n q : ℕ) {r : ℕ} → r < 256 ^ n → bytes (m + n) (q * 256 ^ n + r) ≡ bytes m q ++ bytes n r
+bytes-join m n q {r} h = rw (bytes-append m n (q * 256 ^ n + r), digits-div q h, bytes-above n q r)
+
+-- The last n of 8 bytes stand from place at + (8 - n) on: one more, and what is left above it.
+pub overwrite-next : (at n w : ℕ) (s : List ℕ) → n < 8
+    → set (overwrite (at + (8 - n)) (bytes n w) s) (at + (7 - n)) (w / 256 ^ n % 256) ≡ overwrite (at + (8 - (n + 1))) (bytes (n + 1) w) s
+unfolding bytes
+overwrite-next at n w s h =
+    let here : at + (8 - suc n) ≡ at + (7 - n) = omega arith in
+    let after : at + (8 - n) ≡ suc (at + (7 - n)) = omega arith in
+    rw (add-one, here, after, overwrite-cons (at + (7 - n)) (w / 256 ^ n % 256) (bytes n w) s)
+
+pub rest-next : (n w : ℕ) → w / 256 ^ (n + 1) ≡ w / 256 ^ n / 256
+rest-next n w = rw (add-one, pow-suc, div-div-eq-div-mul)

@@ -1,0 +1,91 @@
+-- What Horner's rule makes of the sum so far and of the blocks from `at` on is what it makes of all of them.
+-- Assumes nothing.
+use mathlib.Core.Path.{_≡_, refl, sym, ap, _∙_}
+use mathlib.Core.List.{List, []}
+use Prim.Native.Nat.{ℕ, _+_, _-_, _^_, _<_}
+use native.Mathlib.Omega.{arith}
+use borrow.Author.Needs.{needs}
+use denote.Ref.{now}
+use lib.Dec.{lit<}
+use lib.ListN.{length, drop, length-drop, drop-of-length-le}
+use lib.Seq.{drop-drop}
+use Rattle.blocks.specs.Xor.{_⊕_}
+use Rattle.blocks.specs.Bytes.{block, blocks}
+use Rattle.blocks.specs.Field.{_•_, horner}
+use Rattle.blocks.specs.Block.{value}
+use Rattle.blocks.proofs.Bytes.{blocks-nil, blocks-cons, blocks-below}
+use Rattle.blocks.proofs.Halves.{value-below}
+use Rattle.blocks.proofs.Horner.{horner-rule}
+use Rattle.blocks.proofs.Ring.{ring}
+use Rattle.blocks.proofs.field.power_sum.Statement.{statement}
+use Rattle.blocks.proofs.field.power_sum.Tie as tie
+use Rattle.blocks.proofs.field.power_sum.Reads as reads
+use Rattle.blocks.proofs.field.power_sum.Lts as lts
+use Rattle.blocks.proofs.block.Block.read.Reads as read-reads
+use Rattle.blocks.proofs.block.Block.xor.Reads as xor-reads
+use Rattle.blocks.proofs.field.product.Reads as product-reads
+
+-- one block more
+next : (K S at : ℕ) (s : List ℕ) → at < length s → horner _•_ K S (blocks (drop at s)) ≡ horner _•_ K ((S ⊕ block (drop at s)) • K) (blocks (drop (at + 16) s))
+unfolding horner
+next K S at s h = rw (blocks-cons (drop at s) (rw length-drop (omega arith)), drop-drop 16 at s)
+
+abbrev Inv-loop : tie.InvT-loop
+Inv-loop key s sum₀ at₀ sum at = horner _•_ (value key) (value sum) (blocks (drop at s)) ≡ horner _•_ (value key) 0 (blocks s)
+
+abbrev μ-loop : tie.MeasureT-loop
+μ-loop key s sum₀ at₀ sum at = length s - at
+
+loop-holds : tie.Need-loop-holds Inv-loop μ-loop
+unfolding value
+loop-holds c = refl
+
+read-requires : tie.Need-read-requires Inv-loop μ-loop
+read-requires c κs = search needs
+
+xor-requires : tie.Need-xor-requires Inv-loop μ-loop
+xor-requires c κs = search needs
+
+product-requires : tie.Need-product-requires Inv-loop μ-loop
+product-requires c κs = search needs
+
+add-at : tie.Need-add-at Inv-loop μ-loop
+add-at c = omega arith
+
+loop-less : tie.Need-loop-less Inv-loop μ-loop
+loop-less c = omega arith
+
+loop-again : tie.Need-loop-again Inv-loop μ-loop
+loop-again c =
+    let l = c .before .before .before .before .loop in
+    let args = c .before .before .before .before .before .before .args in
+    let K : ℕ = value (args .key) in
+    let turn : value (c .product .result) ≡ (value (l .sum) ⊕ block (drop (l .at) (now (args .«data»)))) • K =
+        c .product .ensures ∙ ap (λ (x : ℕ). x • K) (c .before .xor .ensures ∙ ap (λ (x : ℕ). value (l .sum) ⊕ x) (c .before .before .read .ensures)) in
+    rw turn (sym (next K (value (l .sum)) (l .at) (now (args .«data»)) (c .before .before .before .loop-test .taken)) ∙ l .inv)
+
+returns : tie.Need-returns Inv-loop μ-loop
+unfolding horner
+returns c =
+    let args = c .before .before .before .args in
+    let s = now (args .«data») in
+    let K = value (args .key) in
+    let done : blocks (drop (c .before .loop .at) s) ≡ [] = rw (drop-of-length-le s (c .loop-test .left)) blocks-nil in
+    (rw done at (c .before .loop .inv))
+    ∙ horner-rule (ring 128 0x87 (lit< tt) (lit< tt)) K (value-below (args .key) (search needs) (search needs)) (blocks s)
+      (blocks-below s (λ i. c .before .before .shared-slice-known .given i .fits))
+
+pub power-sum-spec : {M : Type 1} → statement M
+power-sum-spec =
+    tie.close
+    (tie.spec
+    Inv-loop
+    μ-loop
+    loop-holds
+    read-requires
+    xor-requires
+    product-requires
+    add-at
+    loop-less
+    loop-again
+    returns)
