@@ -4,7 +4,7 @@ use mathlib.Core.Path.{_≡_, refl}
 use Prim.Native.Nat.{ℕ, _*_, _^_, _<_}
 use lib.Dec.{lit<}
 use Rattle.blocks.specs.Xor.{_⊕_}
-use Rattle.blocks.specs.Field.{times01, timesX, productN, product, xTimes, _•_, Ring}
+use Rattle.blocks.specs.Field.{times01, timesX, productN, product, xTimes, _•_}
 use Rattle.blocks.proofs.Ring.{ring}
 
 -- P1: x times 1 is 2. P2: x times the block 80 then fifteen 00 is 87. P3: that block times 2 is 87.

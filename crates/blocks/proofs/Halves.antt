@@ -1,7 +1,7 @@
 -- A number as two halves of w digits: what the code's operations on the halves do to the number. The code has w = 64.
 -- Assumes nothing.
-use mathlib.Core.Path.{_≡_, refl, sym, ap, ap₂, _∙_, subst}
-use Prim.Native.Nat.{ℕ, zero, suc, _+_, _*_, _/_, _%_, _^_, _<_, _≤_}
+use mathlib.Core.Path.{_≡_, sym, ap, ap₂, _∙_}
+use Prim.Native.Nat.{ℕ, suc, _+_, _*_, _/_, _%_, _^_, _<_}
 use native.Mathlib.Nat.{zero-lt-suc, mul-comm, zero-mul, add-comm, add-mul-div-right, add-mul-mod-self-right, mul-div-mul-right, pow-suc, div-lt-iff-lt-mul, mod-eq-of-lt, zero-add, add-zero}
 use native.Mathlib.Omega.{arith}
 use lib.Arith.{digits-lt, digits-div, digits-mod, mod-mul}

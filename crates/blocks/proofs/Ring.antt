@@ -4,7 +4,7 @@
 -- Assumes nothing.
 use mathlib.Core.Path.{_≡_, refl, sym, ap, ap₂, _∙_, subst}
 use mathlib.Core.Logic.{⊎-elim}
-use Prim.Native.Nat.{ℕ, zero, suc, pred, _+_, _*_, _/_, _%_, _^_, _<_, _≤_}
+use Prim.Native.Nat.{ℕ, zero, suc, pred, _+_, _*_, _/_, _%_, _^_, _<_}
 use native.Mathlib.Nat.{mod-lt, mod-self, mod-eq-of-lt, div-self, div-eq-of-lt, zero-lt-suc, le-of-suc-le-suc, not-suc-le-zero, eq-or-lt-of-le, le-of-lt, le-of-eq, suc-pred-eq-of-pos, pow-suc, mul-comm}
 use native.Mathlib.Omega.{arith}
 use lib.Arith.{lt-one}

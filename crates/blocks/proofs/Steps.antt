@@ -1,8 +1,8 @@
 -- The product by the coefficients of b from the highest down: after i steps what there is, and what is left of b, shifted left.
 -- Assumes nothing.
 use mathlib.Core.Path.{_≡_, sym, ap, _∙_, subst}
-use Prim.Native.Nat.{ℕ, zero, suc, _+_, _-_, _*_, _/_, _%_, _^_, _<_}
-use native.Mathlib.Nat.{two-mul, add-mod, mul-assoc, mul-comm, pow-suc, div-div-eq-div-mul}
+use Prim.Native.Nat.{ℕ, suc, _+_, _-_, _*_, _/_, _%_, _^_, _<_}
+use native.Mathlib.Nat.{two-mul, add-mod, pow-suc, div-div-eq-div-mul}
 use native.Mathlib.Numerals.{add-one, one-add}
 use native.Mathlib.Omega.{arith}
 use lib.Pow.{field, shr-shr, shl-shr}

@@ -24,5 +24,5 @@ theorems = record {
   ring-of-bytes = Ring.ring 8 0x1b (lit< tt) (lit< tt);
   horner-rule = λ k one _·_ ring. Horner.horner-rule ring;
   count-numbers = One.count-one;
-  count-strings = One.count-strings
+  count-strings = One.count-strings;
 }

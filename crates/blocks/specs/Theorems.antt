@@ -1,5 +1,5 @@
 -- The theorems of this crate, each by name. One value of this record, proofs/Theorems.antt, proves them all.
-use Prim.Native.Nat.{ℕ, zero, _%_, _^_, _<_}
+use Prim.Native.Nat.{ℕ, _%_, _^_, _<_}
 use mathlib.Core.Path.{_≡_}
 use mathlib.Core.Bool.{Bool}
 use mathlib.Core.List.{List}

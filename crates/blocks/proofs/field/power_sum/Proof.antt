@@ -2,7 +2,7 @@
 -- Assumes nothing.
 use mathlib.Core.Path.{_≡_, refl, sym, ap, _∙_}
 use mathlib.Core.List.{List, []}
-use Prim.Native.Nat.{ℕ, _+_, _-_, _^_, _<_}
+use Prim.Native.Nat.{ℕ, _+_, _-_, _<_}
 use native.Mathlib.Omega.{arith}
 use borrow.Author.Needs.{needs}
 use denote.Ref.{now}
@@ -19,11 +19,6 @@ use Rattle.blocks.proofs.Horner.{horner-rule}
 use Rattle.blocks.proofs.Ring.{ring}
 use Rattle.blocks.proofs.field.power_sum.Statement.{statement}
 use Rattle.blocks.proofs.field.power_sum.Tie as tie
-use Rattle.blocks.proofs.field.power_sum.Reads as reads
-use Rattle.blocks.proofs.field.power_sum.Lts as lts
-use Rattle.blocks.proofs.block.Block.read.Reads as read-reads
-use Rattle.blocks.proofs.block.Block.xor.Reads as xor-reads
-use Rattle.blocks.proofs.field.product.Reads as product-reads
 
 -- one block more
 next : (K S at : ℕ) (s : List ℕ) → at < length s → horner _•_ K S (blocks (drop at s)) ≡ horner _•_ K ((S ⊕ block (drop at s)) • K) (blocks (drop (at + 16) s))
@@ -61,7 +56,7 @@ loop-again c =
     let args = c .before .before .before .before .before .before .args in
     let K : ℕ = value (args .key) in
     let turn : value (c .product .result) ≡ (value (l .sum) ⊕ block (drop (l .at) (now (args .«data»)))) • K =
-        c .product .ensures ∙ ap (λ (x : ℕ). x • K) (c .before .xor .ensures ∙ ap (λ (x : ℕ). value (l .sum) ⊕ x) (c .before .before .read .ensures)) in
+    c .product .ensures ∙ ap (λ (x : ℕ). x • K) (c .before .xor .ensures ∙ ap (λ (x : ℕ). value (l .sum) ⊕ x) (c .before .before .read .ensures)) in
     rw turn (sym (next K (value (l .sum)) (l .at) (now (args .«data»)) (c .before .before .before .loop-test .taken)) ∙ l .inv)
 
 returns : tie.Need-returns Inv-loop μ-loop
@@ -73,7 +68,7 @@ returns c =
     let done : blocks (drop (c .before .loop .at) s) ≡ [] = rw (drop-of-length-le s (c .loop-test .left)) blocks-nil in
     (rw done at (c .before .loop .inv))
     ∙ horner-rule (ring 128 0x87 (lit< tt) (lit< tt)) K (value-below (args .key) (search needs) (search needs)) (blocks s)
-      (blocks-below s (λ i. c .before .before .shared-slice-known .given i .fits))
+    (blocks-below s (λ i. c .before .before .shared-slice-known .given i .fits))
 
 pub power-sum-spec : {M : Type 1} → statement M
 power-sum-spec =

@@ -1,11 +1,11 @@
 -- `Block::write` meets its contract: past the end nothing is written, and else the bytes of the two halves, one after the other.
 -- Assumes nothing.
 use borrow.Author.Needs.{needs}
-use Prim.Native.Nat.{_+_, _^_, _<_}
+use Prim.Native.Nat.{_^_, _<_}
 use native.Mathlib.Omega.{arith}
-use mathlib.Core.Path.{sym, ap, _∙_}
+use mathlib.Core.Path.{sym}
 use denote.Ref.{now}
-use Rattle.blocks.specs.Bytes.{bytes, overwrite}
+use Rattle.blocks.specs.Bytes.{bytes}
 use Rattle.blocks.specs.Block.{value}
 use Rattle.blocks.proofs.Bytes.{length-bytes}
 use Rattle.blocks.proofs.Place.{overwrite-past, overwrite-append, bytes-join}
