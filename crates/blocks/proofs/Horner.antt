@@ -11,6 +11,7 @@ use Rattle.blocks.specs.Field.{power, powerSum, horner, Ring}
 use Rattle.blocks.proofs.Xor.{xor-assoc, xor-below, xor-zero, xor-zero-left}
 
 module _ {k one : ℕ} {_·_ : ℕ → ℕ → ℕ} (ring : Ring k one _·_) where
+  infixl 70 _·_
   pub power-below : (R n : ℕ) → R < 2 ^ k → power one _·_ R n < 2 ^ k
   unfolding power
   power-below R zero h = ring .one-below
@@ -18,17 +19,17 @@ module _ {k one : ℕ} {_·_ : ℕ → ℕ → ℕ} (ring : Ring k one _·_) whe
 
   -- what there is gets one power of R for each block that follows
   horner-from : (R : ℕ) → R < 2 ^ k → (sum : ℕ) (As : List ℕ) → sum < 2 ^ k → Below (2 ^ k) As
-      → horner _·_ R sum As ≡ _·_ sum (power one _·_ R (length As)) ⊕ powerSum one _·_ R As
+      → horner _·_ R sum As ≡ sum · power one _·_ R (length As) ⊕ powerSum one _·_ R As
   unfolding horner powerSum power
-  horner-from R hR sum [] hs h = sym (xor-zero (_·_ sum one) ∙ ring .one-right sum hs)
+  horner-from R hR sum [] hs h = sym (xor-zero (sum · one) ∙ ring .one-right sum hs)
   horner-from R hR sum (A ∷ As) hs h =
       let t : ℕ = sum ⊕ A in
       let ht : t < 2 ^ k = xor-below k hs (h 0) in
       let Rⁿ : ℕ = power one _·_ R (length As) in
-      horner-from R hR (_·_ t R) As (ring .below t R ht) (λ i. h (suc i))
+      horner-from R hR (t · R) As (ring .below t R ht) (λ i. h (suc i))
       ∙ ap (λ (x : ℕ). x ⊕ powerSum one _·_ R As)
-      (ring .assoc t R Rⁿ ht hR (power-below R (length As) hR) ∙ ring .add-left sum A (_·_ R Rⁿ))
-      ∙ xor-assoc (_·_ sum (_·_ R Rⁿ)) (_·_ A (_·_ R Rⁿ)) (powerSum one _·_ R As)
+      (ring .assoc t R Rⁿ ht hR (power-below R (length As) hR) ∙ ring .add-left sum A (R · Rⁿ))
+      ∙ xor-assoc (sum · (R · Rⁿ)) (A · (R · Rⁿ)) (powerSum one _·_ R As)
 
   pub horner-rule : (R : ℕ) → R < 2 ^ k → (As : List ℕ) → Below (2 ^ k) As → horner _·_ R 0 As ≡ powerSum one _·_ R As
   horner-rule R hR As h =

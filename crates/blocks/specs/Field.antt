@@ -26,36 +26,44 @@ productN k p (suc n) a b = times01 (b % 2) a ⊕ timesX k p (productN k p n a (b
 unfoldable pub product : (k p : ℕ) → ℕ → ℕ → ℕ
 product k p a b = productN k p k a b
 
--- The nth power of a, for a product and its one.
-unfoldable pub power : (one : ℕ) → (ℕ → ℕ → ℕ) → ℕ → ℕ → ℕ
-power one _·_ a zero = one
-power one _·_ a (suc n) = _·_ a (power one _·_ a n)
+-- ---- over any product and its one
 
--- 01's H, "the sum of A_2 to A_m, each times its own power of R, the powers being m - 1 down to 1": the list is A_2, .., A_m.
-unfoldable pub powerSum : (one : ℕ) → (ℕ → ℕ → ℕ) → ℕ → List ℕ → ℕ
-powerSum one _·_ R [] = 0
-powerSum one _·_ R (A ∷ As) = _·_ A (power one _·_ R (suc (length As))) ⊕ powerSum one _·_ R As
+module _ (one : ℕ) (_·_ : ℕ → ℕ → ℕ) where
+  infixl 70 _·_
+  -- The nth power of a.
+  unfoldable pub power : ℕ → ℕ → ℕ
+  power a zero = one
+  power a (suc n) = a · power a n
 
--- The same sum by Horner's rule: each block is added to what there is, and that is multiplied by R.
-unfoldable pub horner : (ℕ → ℕ → ℕ) → ℕ → ℕ → List ℕ → ℕ
-horner _·_ R sum [] = sum
-horner _·_ R sum (A ∷ As) = horner _·_ R (_·_ (sum ⊕ A) R) As
+  -- 01's H, "the sum of A_2 to A_m, each times its own power of R, the powers being m - 1 down to 1": the list is A_2, .., A_m.
+  unfoldable pub powerSum : ℕ → List ℕ → ℕ
+  powerSum R [] = 0
+  powerSum R (A ∷ As) = A · power R (suc (length As)) ⊕ powerSum R As
 
--- What makes a product on the numbers below 2 ^ k, with the sum, a commutative ring with one. Exclusive or is a commutative
--- group by itself (proofs/Xor.antt).
-pub record Ring (k one : ℕ) (_·_ : ℕ → ℕ → ℕ) : Type 0 where
-  pub one-below : one < 2 ^ k
-  pub below : (a b : ℕ) → a < 2 ^ k → _·_ a b < 2 ^ k
-  pub add-left : (a b c : ℕ) → _·_ (a ⊕ b) c ≡ _·_ a c ⊕ _·_ b c
-  pub add-right : (a b c : ℕ) → _·_ a (b ⊕ c) ≡ _·_ a b ⊕ _·_ a c
-  pub zero-left : (a : ℕ) → _·_ 0 a ≡ 0
-  pub zero-right : (a : ℕ) → _·_ a 0 ≡ 0
-  pub one-left : (a : ℕ) → a < 2 ^ k → _·_ one a ≡ a
-  pub one-right : (a : ℕ) → a < 2 ^ k → _·_ a one ≡ a
-  pub comm : (a b : ℕ) → a < 2 ^ k → b < 2 ^ k → _·_ a b ≡ _·_ b a
-  pub assoc : (a b c : ℕ) → a < 2 ^ k → b < 2 ^ k → c < 2 ^ k → _·_ (_·_ a b) c ≡ _·_ a (_·_ b c)
+module _ (_·_ : ℕ → ℕ → ℕ) where
+  infixl 70 _·_
+  -- The same sum by Horner's rule: each block is added to what there is, and that is multiplied by R.
+  unfoldable pub horner : ℕ → ℕ → List ℕ → ℕ
+  horner R sum [] = sum
+  horner R sum (A ∷ As) = horner R ((sum ⊕ A) · R) As
 
--- The two fields: 01's blocks, and the bytes of AES.
+module _ (k one : ℕ) (_·_ : ℕ → ℕ → ℕ) where
+  infixl 70 _·_
+  -- The numbers below 2 ^ k are a commutative ring with one under this product. (Exclusive or is a commutative group by itself.)
+  pub record Ring : Type 0 where
+    pub one-below : one < 2 ^ k
+    pub below : (a b : ℕ) → a < 2 ^ k → a · b < 2 ^ k
+    pub add-left : (a b c : ℕ) → (a ⊕ b) · c ≡ a · c ⊕ b · c
+    pub add-right : (a b c : ℕ) → a · (b ⊕ c) ≡ a · b ⊕ a · c
+    pub zero-left : (a : ℕ) → 0 · a ≡ 0
+    pub zero-right : (a : ℕ) → a · 0 ≡ 0
+    pub one-left : (a : ℕ) → a < 2 ^ k → one · a ≡ a
+    pub one-right : (a : ℕ) → a < 2 ^ k → a · one ≡ a
+    pub comm : (a b : ℕ) → a < 2 ^ k → b < 2 ^ k → a · b ≡ b · a
+    pub assoc : (a b c : ℕ) → a < 2 ^ k → b < 2 ^ k → c < 2 ^ k → a · b · c ≡ a · (b · c)
+
+-- ---- 01's field of blocks
+
 abbrev pub xTimes : ℕ → ℕ
 xTimes = timesX 128 0x87
 
