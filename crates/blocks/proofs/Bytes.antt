@@ -14,7 +14,7 @@ use Rattle.blocks.specs.Xor.{_⊕_, xorBytes}
 use Rattle.blocks.specs.Bytes.{Below, Bytes, number, bytes, pad, block, cut, blocks}
 use Rattle.blocks.proofs.Xor.{xor-cancel-right, xor-shr, xor-mod}
 
--- Entries below n, also past the end.
+-- Strings whose entries are below n. Past the end an entry is 0, so n is never 0.
 pub below-pos : {n : ℕ} (s : List ℕ) → Below n s → 0 < n
 below-pos s h = rw (List·getD-eq-default s 0 (le-refl (length s))) at (h (length s))
 
@@ -90,7 +90,7 @@ unfolding bytes
 bytes-append zero n a = rw zero-add
 bytes-append (suc m) n a = rw (suc-add, bytes-append m n a, div-div-eq-div-mul, pow-add, mul-comm (256 ^ m))
 
--- Exclusive or, byte by byte.
+-- Exclusive or goes byte by byte, since 256 ^ n is a power of 2.
 pub pow-mul : (a k n : ℕ) → (a ^ k) ^ n ≡ a ^ (k * n)
 pow-mul a k zero = rw (pow-zero, mul-zero, pow-zero)
 pow-mul a k (suc n) = rw (pow-suc, pow-mul a k n, mul-suc, pow-add)

@@ -1,6 +1,6 @@
 -- Bytes at a place of a string: what `Block::read` and `Block::write` go by.
 -- Assumes nothing.
-use Prim.Native.Nat.{ℕ, zero, suc, _+_, _-_, _*_, _/_, _%_, _^_, _≤_, _<_}
+use Prim.Native.Nat.{ℕ, zero, suc, _+_, _*_, _/_, _%_, _^_, _≤_, _<_}
 use mathlib.Core.Path.{_≡_}
 use mathlib.Core.List.{List, [], _∷_, _++_}
 use native.Mathlib.Nat.{sub-zero, zero-add, add-suc, pow-suc, div-div-eq-div-mul, add-zero, zero-sub, suc-sub-suc, suc-add, pow-le-pow-right, lt-of-lt-of-le}
@@ -12,8 +12,9 @@ use lib.Seq.{getD-drop, drop-drop, take-nil, drop-nil, set-out, set-comm}
 use Rattle.blocks.specs.Bytes.{Bytes, number, bytes, block, overwrite}
 use Rattle.blocks.proofs.Bytes.{bytes-append, bytes-above, number-below, number-append, padded, length-padded, padded-below, padded-suc, padded-add, block-padded, below-drop}
 
--- Reading one byte more.
-pub number-next : (n at : ℕ) (s : List ℕ) → number (padded (n + 1) (drop at s)) ≡ number (padded n (drop at s)) * 256 + getD s (at + n) 0
+-- Reading one byte more: what has been read is shifted up.
+pub number-next : (n at : ℕ) (s : List ℕ)
+    → number (padded (n + 1) (drop at s)) ≡ number (padded n (drop at s)) * 256 + getD s (at + n) 0
 unfolding number
 number-next n at s = rw (add-one, padded-suc n (drop at s), number-append, getD-drop) (omega arith)
 
@@ -92,14 +93,11 @@ overwrite-append i (b ∷ t) u s =
 pub bytes-join : (m n q : ℕ) {r : ℕ} → r < 256 ^ n → bytes (m + n) (q * 256 ^ n + r) ≡ bytes m q ++ bytes n r
 bytes-join m n q {r} h = rw (bytes-append m n (q * 256 ^ n + r), digits-div q h, bytes-above n q r)
 
--- The last n of 8 bytes stand from place at + (8 - n) on: one more, and what is left above it.
-pub overwrite-next : (at n w : ℕ) (s : List ℕ) → n < 8
-    → set (overwrite (at + (8 - n)) (bytes n w) s) (at + (7 - n)) (w / 256 ^ n % 256) ≡ overwrite (at + (8 - (n + 1))) (bytes (n + 1) w) s
+-- Writing a number's bytes from the last on: the next byte, and what is left above it.
+pub overwrite-next : (k n w : ℕ) (s : List ℕ)
+    → set (overwrite (k + 1) (bytes n w) s) k (w / 256 ^ n % 256) ≡ overwrite k (bytes (n + 1) w) s
 unfolding bytes
-overwrite-next at n w s h =
-    let here : at + (8 - suc n) ≡ at + (7 - n) = omega arith in
-    let after : at + (8 - n) ≡ suc (at + (7 - n)) = omega arith in
-    rw (add-one, here, after, overwrite-cons (at + (7 - n)) (w / 256 ^ n % 256) (bytes n w) s)
+overwrite-next k n w s = rw (add-one k, add-one n, overwrite-cons k (w / 256 ^ n % 256) (bytes n w) s)
 
 pub rest-next : (n w : ℕ) → w / 256 ^ (n + 1) ≡ w / 256 ^ n / 256
 rest-next n w = rw (add-one, pow-suc, div-div-eq-div-mul)

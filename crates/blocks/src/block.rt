@@ -11,6 +11,7 @@ pub struct Block {
     pub lo: u64,
 }
 
+// A byte as a word.
 fn wide(b: u8) -> u64
     ensures { λ r. ⌜ r ≡ b ⌝ }
 {
@@ -75,6 +76,7 @@ impl Block {
         put_word(out, at, self.hi);
         put_word(out, at + 8, self.lo);
     }
+
     // The sum of two blocks.
     pub fn xor(self, other: Block) -> Block
         ensures { λ r. ⌜ value r ≡ value self ⊕ value other ⌝ }

@@ -49,8 +49,14 @@ loop-again c =
     let l = c .before .before .loop in
     let a = c .before .before .before .args in
     let k = a .at + (7 - l .i) in
-    let stored : c .if1 .out ≡ set (l .out) k (l .rest % 256) = ⊎-elim (λ w. w .1) (λ w. w .1 ∙ sym (set-out (l .out) k (l .rest % 256) (w .0 .left))) (c .if1 .came) in
-    (omega arith, rw (l .inv .1, rest-next), rw (stored, l .inv .1, l .inv .2) (overwrite-next (a .at) (l .i) (a .w) (now (a .out)) (omega arith)))
+    let here : a .at + (8 - (l .i + 1)) ≡ k = omega arith in
+    let after : a .at + (8 - l .i) ≡ k + 1 = omega arith in
+    let stored : c .if1 .out ≡ set (l .out) k (l .rest % 256) =
+    ⊎-elim (λ w. w .1) (λ w. w .1 ∙ sym (set-out (l .out) k (l .rest % 256) (w .0 .left))) (c .if1 .came) in (
+      omega arith,
+      rw (l .inv .1, rest-next),
+      rw (stored, l .inv .1, l .inv .2, here, after) (overwrite-next k (l .i) (a .w) (now (a .out))),
+    )
 
 same-length : tie.Need-same-length Inv-loop μ-loop
 same-length c = rw (c .before .loop .inv .2, length-overwrite)
