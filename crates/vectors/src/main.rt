@@ -1,0 +1,112 @@
+// Runs test vectors: reads lines from standard input and writes an answer for each, a line of
+// lower-case hexadecimal digits. A line that is no command with its fields, each parted from the
+// next by one space, is answered `no`, and the program goes on with the next.
+//
+//     x a             a times x
+//     m a b           the product of a and b
+//     s r a1 .. an    the keyed sum of the blocks a1 .. an, n from 0 on, with the key r
+mod commands;
+mod fields;
+
+use libc::STDIN_FILENO;
+use libc::STDOUT_FILENO;
+
+// The most characters that a line may have in front of its line feed.
+const LIMIT: usize = 16384;
+
+// What one read brought: the number of characters of the line that is under way, or the input's end.
+enum Turn {
+    Read(usize),
+    End,
+}
+
+// A proved loop has to end, and nothing says that the input does. So the loop counts its turns down,
+// from a number that no run uses up.
+fn main() {
+    let mut line = [0u8; LIMIT];
+    let mut count = 0;
+    let mut turns = u64::MAX;
+    while turns > 0 {
+        let Turn::Read(n) = step(&mut line, count) else {
+            break;
+        };
+        count = n;
+        turns -= 1;
+    }
+    if count > 0 {
+        answer(&line, count);
+    }
+}
+
+// Reads once, and answers each line that ends in what came.
+fn step(line: &mut [u8], count: usize) -> Turn {
+    let mut chunk = io::large_buffer();
+    let got = libc::read(STDIN_FILENO, &mut chunk);
+    let n = io::count(got, &chunk);
+    if n == 0 {
+        return Turn::End;
+    }
+    Turn::Read(lines(line, count, &chunk[..n]))
+}
+
+// Goes on with the line under way, of `count` characters, answers it where it ends, and so with each
+// that follows. The number of characters of the last, which has not ended, is returned.
+fn lines(line: &mut [u8], count: usize, chunk: &[u8]) -> usize {
+    let mut n = count;
+    let mut at = 0;
+    while at < chunk.len() {
+        let end = text::line::find(chunk, at, b'\n');
+        n = text::line::append(line, n, &chunk[at..end]);
+        if end < chunk.len() {
+            answer(line, n);
+            n = 0;
+        }
+        at = end + 1;
+    }
+    n
+}
+
+// Answers the line in the first `count` bytes; a count past them is a line that was too long.
+fn answer(line: &[u8], count: usize) {
+    if count <= line.len() {
+        if reply(&line[0..count]) {
+            return;
+        }
+    }
+    io::write_all(STDOUT_FILENO, b"no\n");
+}
+
+// Writes the answer to a line and says so, or writes nothing.
+fn reply(line: &[u8]) -> bool {
+    let end = text::line::find(line, 0, b' ');
+    run(&line[0..end], line, end + 1)
+}
+
+// The command that the line's first word names, on the fields from place `at` on.
+fn run(word: &[u8], line: &[u8], at: usize) -> bool {
+    if is(word, b"x") {
+        return commands::times_x(line, at);
+    }
+    if is(word, b"m") {
+        return commands::product(line, at);
+    }
+    if is(word, b"s") {
+        return commands::power_sum(line, at);
+    }
+    false
+}
+
+// Whether a word is the one of that name.
+fn is(word: &[u8], name: &[u8]) -> bool {
+    if word.len() != name.len() {
+        return false;
+    }
+    let mut i = 0;
+    while i < word.len() {
+        if word[i] != name[i] {
+            return false;
+        }
+        i += 1;
+    }
+    true
+}
