@@ -76,37 +76,19 @@ fn answer(line: &[u8], count: usize) {
     io::write_all(STDOUT_FILENO, b"no\n");
 }
 
-// Writes the answer to a line and says so, or writes nothing.
+// Writes the answer to a line and says so, or writes nothing. A command is a letter and a space, and its fields come after.
 fn reply(line: &[u8]) -> bool {
-    let end = text::line::find(line, 0, b' ');
-    run(&line[0..end], line, end + 1)
-}
-
-// The command that the line's first word names, on the fields from place `at` on.
-fn run(word: &[u8], line: &[u8], at: usize) -> bool {
-    if is(word, b"x") {
-        return commands::times_x(line, at);
-    }
-    if is(word, b"m") {
-        return commands::product(line, at);
-    }
-    if is(word, b"s") {
-        return commands::power_sum(line, at);
-    }
-    false
-}
-
-// Whether a word is the one of that name.
-fn is(word: &[u8], name: &[u8]) -> bool {
-    if word.len() != name.len() {
+    if line.len() < 2 {
         return false;
     }
-    let mut i = 0;
-    while i < word.len() {
-        if word[i] != name[i] {
-            return false;
-        }
-        i += 1;
+    if line[1] != b' ' {
+        return false;
     }
-    true
+    let command = line[0];
+    match command {
+        b'x' => commands::times_x(line, 2),
+        b'm' => commands::product(line, 2),
+        b's' => commands::power_sum(line, 2),
+        _ => false,
+    }
 }
