@@ -1,64 +1,39 @@
 // The fields of a line, and the line of an answer.
+ghost use Prim.Native.Nat.{_≤_};
 ghost use lib.ListN.{length};
-ghost use Rattle.vectors.specs.Field.{Within};
 use blocks::block::Block;
 use libc::STDOUT_FILENO;
 use text::hex::Decoded;
 
-// A field that was decoded: its length in bytes, and where the next field begins, which is past the
-// line's end where there is none.
-pub enum Field {
-    Bytes { count: usize, next: usize },
-    Refused,
-}
-
-// A field that is a block, and where the next begins.
-pub enum Operand {
-    Block(Block, usize),
-    Refused,
-}
-
-// Decodes the field that begins at place `at` into the front of `out`. It may be empty. It is refused
-// where it is not hexadecimal, is longer than `out`, or begins past the line's end.
-pub fn field_at(line: &[u8], at: usize, out: &mut [u8]) -> Field
-    ensures { λ r. ⌜ Within r (length (now (out .entry))) ⌝ }
+// Decodes the blocks that stand from place `at` on, one space between two, to the front of `data`. Returns the number of their
+// bytes, or 0 where a field is not a block or `data` is full.
+pub fn blocks_from(line: &[u8], at: usize, data: &mut [u8]) -> usize
+    ensures { λ r. ⌜ r ≤ length (now («data» .entry)) ⌝ }
 {
-    if line.len() < at {
-        return Field::Refused;
+    let mut n = 0;
+    let mut next = at;
+    while next <= line.len() {
+        let end = text::line::find(line, next, b' ');
+        if data.len() - n < 16 {
+            return 0;
+        }
+        let Decoded::Bytes(count) = text::hex::decode(&line[next..end], &mut data[n..n + 16]) else {
+            return 0;
+        };
+        if count != 16 {
+            return 0;
+        }
+        n += 16;
+        next = end + 1;
     }
-    let end = text::line::find(line, at, b' ');
-    let Decoded::Bytes(count) = text::hex::decode(&line[at..end], out) else {
-        return Field::Refused;
-    };
-    Field::Bytes {
-        count,
-        next: end + 1,
-    }
+    n
 }
 
-// The block whose 32 digits begin at place `at`.
-pub fn block_at(line: &[u8], at: usize) -> Operand {
-    let mut bytes = [0u8; 16];
-    let Field::Bytes { count, next } = field_at(line, at, &mut bytes) else {
-        return Operand::Refused;
-    };
-    if count != 16 {
-        return Operand::Refused;
-    }
-    Operand::Block(Block::read(&bytes, 0), next)
-}
-
-// Writes bytes as a line of digits, of at most LIMIT characters. The buffer is all line feeds, so that
-// one follows the digits.
-pub fn put(bytes: &[u8]) {
-    let mut line = [b'\n'; crate::LIMIT + 1];
-    let n = text::hex::encode(bytes, &mut line);
-    io::write_all(STDOUT_FILENO, &line[0..n + 1]);
-}
-
-// Writes a block as a line.
+// Writes a block as a line: its digits, and the line feed that they leave at the end.
 pub fn put_block(b: Block) {
     let mut bytes = [0u8; 16];
     b.write(&mut bytes, 0);
-    put(&bytes);
+    let mut line = [b'\n'; 33];
+    text::hex::encode(&bytes, &mut line);
+    io::write_all(STDOUT_FILENO, &line);
 }

@@ -5,9 +5,10 @@
 //     x a             a times x
 //     m a b           the product of a and b
 //     s r a1 .. an    the keyed sum of the blocks a1 .. an, n from 0 on, with the key r
-mod commands;
 mod fields;
 
+use blocks::block::Block;
+use blocks::field;
 use libc::STDIN_FILENO;
 use libc::STDOUT_FILENO;
 
@@ -84,11 +85,29 @@ fn reply(line: &[u8]) -> bool {
     if line[1] != b' ' {
         return false;
     }
-    let command = line[0];
-    match command {
-        b'x' => commands::times_x(line, 2),
-        b'm' => commands::product(line, 2),
-        b's' => commands::power_sum(line, 2),
-        _ => false,
+    let mut data = [0u8; LIMIT / 2];
+    let n = fields::blocks_from(line, 2, &mut data);
+    run(line[0], &data[0..n])
+}
+
+// A command on the bytes of its blocks.
+fn run(command: u8, data: &[u8]) -> bool {
+    let n = data.len();
+    if n < 16 {
+        return false;
     }
+    let a = Block::read(data, 0);
+    if command == b'x' && n == 16 {
+        fields::put_block(field::times_x(a));
+        return true;
+    }
+    if command == b'm' && n == 32 {
+        fields::put_block(field::product(a, Block::read(data, 16)));
+        return true;
+    }
+    if command == b's' {
+        fields::put_block(field::power_sum(a, &data[16..]));
+        return true;
+    }
+    false
 }
