@@ -1,4 +1,4 @@
--- Lower-case hexadecimal: a byte is two digits, the high one first. Assumes nothing.
+-- Lower-case hexadecimal: a byte is two digits, the high one first.
 use Prim.Native.Nat.{ℕ, _+_, _-_, _*_, _/_, _%_, min}
 use mathlib.Core.Bool.{Bool, true, cond, _&&_, _||_}
 use mathlib.Core.List.{List, [], _∷_, _++_}
@@ -7,51 +7,51 @@ use lib.ListN.{length, take, drop}
 use Rattle.text.specs.declared.hex.Decoded.{Decoded}
 use Rattle.text.specs.declared.hex.Decoded.the-variants.{Bytes, Refused}
 
--- the character of a number below 16: `0` is 48, and `a`, for ten, is 97
+-- The character of a number below 16: `0` is 48, and `a`, for ten, is 97.
 unfoldable pub digit : ℕ → ℕ
 digit n = cond (ltb n 10) (48 + n) (87 + n)
 
--- whether c is one of `0` to `9` or `a` to `f`
+-- Whether c is one of `0` to `9` or `a` to `f`.
 unfoldable pub isDigit : ℕ → Bool
 isDigit c = leb 48 c && leb c 57 || leb 97 c && leb c 102
 
--- the number that a digit stands for
+-- The number that a digit stands for.
 unfoldable pub value : ℕ → ℕ
 value c = cond (leb c 57) (c - 48) (c - 87)
 
--- bytes as text
+-- Bytes as text.
 unfoldable pub hex : List ℕ → List ℕ
 hex [] = []
 hex (b ∷ bs) = digit (b / 16) ∷ digit (b % 16) ∷ hex bs
 
--- whether each character is a digit
+-- Whether each character is a digit.
 unfoldable pub allDigits : List ℕ → Bool
 allDigits [] = true
 allDigits (c ∷ s) = isDigit c && allDigits s
 
--- whether s is an even number of digits
+-- Whether s is an even number of digits.
 unfoldable pub isHex : List ℕ → Bool
 isHex s = eqb (length s % 2) 0 && allDigits s
 
--- text as bytes, two digits each
+-- Text as bytes, two digits each.
 unfoldable pub unhex : List ℕ → List ℕ
 unhex [] = []
 unhex (c ∷ []) = []
 unhex (c ∷ d ∷ s) = (value c * 16 + value d) ∷ unhex s
 
--- how many whole bytes have room in `out`, two characters each
+-- How many whole bytes have room in `out`, two characters each.
 unfoldable pub fitting : List ℕ → List ℕ → ℕ
 fitting bytes out = min (length bytes) (length out / 2)
 
--- what `encode` leaves in `out`: their digits, and then what stood there
+-- What `encode` leaves in `out`: their digits, and then what stood there.
 unfoldable pub encodedIn : List ℕ → List ℕ → List ℕ
 encodedIn bytes out = hex (take (fitting bytes out) bytes) ++ drop (2 * fitting bytes out) out
 
--- what `decode` answers: how many bytes it wrote, or that the text is not hexadecimal or `out` is too short for it
+-- What `decode` answers: how many bytes it wrote, or that the text is not hexadecimal or `out` is too short for it.
 unfoldable pub decodedOf : List ℕ → List ℕ → Decoded
 decodedOf text out = cond (isHex text && leb (length text / 2) (length out)) (Bytes (length text / 2)) Refused
 
--- what `decode` leaves in `out` with that answer
+-- What `decode` leaves in `out` with that answer.
 unfoldable pub leftBy : Decoded → List ℕ → List ℕ → List ℕ
 leftBy (Bytes n) text out = unhex text ++ drop n out
 leftBy Refused text out = out
