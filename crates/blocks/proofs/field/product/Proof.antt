@@ -1,6 +1,6 @@
 -- After i steps the sum is a times the i highest coefficients of b, and what is left of b stands i places to the left.
 use mathlib.Core.Path.{_≡_, refl, sym, ap, ap₂, _∙_}
-use Prim.Native.Nat.{ℕ, _-_, _*_, _/_, _%_, _^_, _≤_}
+use Prim.Native.Nat.{ℕ, _-_, _*_, _/_, _%_, _^_, _≤_, _<_}
 use native.Mathlib.Nat.{mul-one, mod-eq-of-lt, div-one}
 use native.Mathlib.Omega.{arith}
 use borrow.Author.Needs.{needs}
@@ -54,13 +54,14 @@ loop-again c =
     let args = c .before .before .before .before .before .before .before .args in
     let a : ℕ = value (args .a) in
     let b : ℕ = value (args .b) in
+    let turn : l .counter < 128 = omega (arith, c .before .before .before .before .before .loop-test .taken) in
     let bit = c .before .before .before .top .ensures .0 ∙ ap (λ (x : ℕ). x / 2 ^ 127) (l .inv .2) in (
       omega arith,
       c .before .xor .ensures
           ∙ ap₂ _⊕_
           (c .before .before .before .before .times-x .ensures ∙ ap (timesX 128 0x87) (l .inv .1))
           (c .before .before .times-bit .ensures ∙ ap (λ (d : ℕ). times01 d a) bit)
-          ∙ product-step 128 0x87 a b (l .counter) (c .before .before .before .before .before .loop-test .taken),
+          ∙ product-step 128 0x87 a b (l .counter) turn,
       c .shifted .ensures ∙ ap (λ (x : ℕ). 2 * x % 2 ^ 128) (l .inv .2) ∙ rest-step 128 b (l .counter),
     )
 
