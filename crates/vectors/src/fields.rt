@@ -7,7 +7,7 @@ use text::hex::Decoded;
 
 // Decodes the blocks that stand from place `at` on, one space between two, to the front of `data`. Returns the number of their
 // bytes, or 0 where a field is not a block or `data` is full.
-pub fn blocks_from(line: &[u8], at: usize, data: &mut [u8]) -> usize
+pub(crate) fn blocks_from(line: &[u8], at: usize, data: &mut [u8]) -> usize
     ensures { λ r. ⌜ r ≤ length (now («data» .entry)) ⌝ }
 {
     let mut n = 0;
@@ -30,7 +30,7 @@ pub fn blocks_from(line: &[u8], at: usize, data: &mut [u8]) -> usize
 }
 
 // Writes a block as a line: its digits, and the line feed that they leave at the end.
-pub fn put_block(b: Block) {
+pub(crate) fn put_block(b: Block) {
     let mut bytes = [0u8; 16];
     b.write(&mut bytes, 0);
     let mut line = [b'\n'; 33];
