@@ -1,9 +1,9 @@
 -- Laws of byte strings: numbers and bytes undo each other, exclusive or goes byte by byte, and blocks are cut by 16.
 -- Assumes nothing.
 use Prim.Native.Nat.{ℕ, zero, suc, _+_, _-_, _*_, _/_, _%_, _^_, _≤_, _<_}
-use mathlib.Core.Path.{_≡_, refl, sym, ap, _∙_}
+use mathlib.Core.Path.{_≡_, refl, ap}
 use mathlib.Core.List.{List, [], _∷_, _++_}
-use native.Mathlib.Nat.{zero-add, suc-add, add-assoc, add-mul, mul-assoc, mul-comm, mul-zero, mul-suc, pow-zero, pow-suc, pow-succ', one-le-pow, sub-zero, suc-sub-suc, le-refl, mod-eq-of-lt, div-add-mod', div-div-eq-div-mul, mul-add-div-right, mul-add-mod-self-right}
+use native.Mathlib.Nat.{zero-add, suc-add, add-assoc, add-mul, mul-assoc, mul-comm, mul-zero, mul-suc, pow-zero, pow-suc, pow-succ', one-le-pow, sub-zero, suc-sub-suc, le-refl, mod-eq-of-lt, div-div-eq-div-mul, mul-add-div-right, mul-add-mod-self-right}
 use native.Mathlib.Numerals.{one-add}
 use native.Mathlib.Omega.{arith}
 use lib.Arith.{digits-lt, digits-div, mod-mul}
@@ -22,12 +22,6 @@ pub below-append : {n : ℕ} (s t : List ℕ) → Below n s → Below n t → Be
 below-append [] t h k i = k i
 below-append (a ∷ s) t h k zero = h 0
 below-append (a ∷ s) t h k (suc i) = below-append s t (λ j. h (suc j)) k i
-
-pub below-take : {n : ℕ} (m : ℕ) (s : List ℕ) → Below n s → Below n (take m s)
-below-take zero s h i = below-pos s h
-below-take (suc m) [] h i = h 0
-below-take (suc m) (a ∷ s) h zero = h 0
-below-take (suc m) (a ∷ s) h (suc i) = below-take m s (λ j. h (suc j)) i
 
 pub below-drop : {n : ℕ} (m : ℕ) (s : List ℕ) → Below n s → Below n (drop m s)
 below-drop m s h i = rw getD-drop (h (m + i))
@@ -74,9 +68,6 @@ unfolding bytes
 bytes-above zero q a = refl
 bytes-above (suc n) q a =
     rw (pow-succ', ← mul-assoc, bytes-above n (q * 256) a, mul-add-div-right (pos n), mul-add-mod-self-right)
-
-pub bytes-mod : (n a : ℕ) → bytes n (a % 256 ^ n) ≡ bytes n a
-bytes-mod n a = sym (bytes-above n (a / 256 ^ n) (a % 256 ^ n)) ∙ ap (bytes n) (div-add-mod' a (256 ^ n))
 
 pub bytes-number : (s : List ℕ) → Bytes s → bytes (length s) (number s) ≡ s
 unfolding number bytes

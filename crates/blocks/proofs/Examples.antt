@@ -2,10 +2,9 @@
 -- Assumes nothing.
 use mathlib.Core.Path.{_≡_, refl}
 use Prim.Native.Nat.{ℕ, _*_, _^_, _<_}
-use lib.Dec.{lit<}
 use Rattle.blocks.specs.Xor.{_⊕_}
 use Rattle.blocks.specs.Field.{times01, timesX, productN, product, xTimes, _•_}
-use Rattle.blocks.proofs.Ring.{ring}
+use Rattle.blocks.proofs.Ring.{ring-of-blocks}
 
 -- P1: x times 1 is 2. P2: x times the block 80 then fifteen 00 is 87. P3: that block times 2 is 87.
 pub p1 : xTimes 1 ≡ 2
@@ -22,10 +21,10 @@ p3 = refl
 
 -- P4: any block times 0 is 0. P5: any block times 1 is itself.
 pub p4 : (a : ℕ) → a • 0 ≡ 0
-p4 = ring 128 0x87 (lit< tt) (lit< tt) .zero-right
+p4 = ring-of-blocks .zero-right
 
 pub p5 : (a : ℕ) → a < 2 ^ 128 → a • 1 ≡ a
-p5 = ring 128 0x87 (lit< tt) (lit< tt) .one-right
+p5 = ring-of-blocks .one-right
 
 -- P6: in AES's field of bytes 57 times 83 is c1. P7: 57 times 2 is ae.
 pub p6 : product 8 0x1b 0x57 0x83 ≡ 0xc1

@@ -8,9 +8,10 @@ use Prim.Native.Nat.{ℕ, zero, suc, pred, _+_, _*_, _/_, _%_, _^_, _<_}
 use native.Mathlib.Nat.{mod-lt, mod-self, mod-eq-of-lt, div-self, div-eq-of-lt, zero-lt-suc, le-of-suc-le-suc, not-suc-le-zero, eq-or-lt-of-le, le-of-lt, le-of-eq, suc-pred-eq-of-pos, pow-suc, mul-comm}
 use native.Mathlib.Omega.{arith}
 use lib.Arith.{lt-one}
+use lib.Dec.{lit<}
 use lib.Pow.{pow-pos, pow-lt}
 use Rattle.blocks.specs.Xor.{_⊕_}
-use Rattle.blocks.specs.Field.{times01, timesX, productN, product, power, Ring}
+use Rattle.blocks.specs.Field.{times01, timesX, productN, product, _•_, power, Ring}
 use Rattle.blocks.proofs.Xor.{xor-laws, xor-comm, xor-shr, xor-mod, xor-parts, xor-disjoint, xor-below, xor-zero, xor-zero-left, xor-self}
 
 abbrev pub Additive : (ℕ → ℕ) → Type 0
@@ -252,3 +253,10 @@ module _ (k p : ℕ) where
           (λ d e. rw (prod-add-right k b d e) (prod-add-right k a (product k p b d) (product k p b e)))
           (λ i h. rw (prod-pow k i (product k p a b) h, prod-pow k i b h) (sym (xs-right a ha b hb i))) c hc;
     }
+
+-- 01's blocks, and the bytes of AES
+pub ring-of-blocks : Ring 128 1 _•_
+ring-of-blocks = ring 128 0x87 (lit< tt) (lit< tt)
+
+pub ring-of-bytes : Ring 8 1 (product 8 0x1b)
+ring-of-bytes = ring 8 0x1b (lit< tt) (lit< tt)

@@ -1,6 +1,5 @@
 -- Every theorem of specs/Theorems.antt, from the laws beside this file.
 -- Assumes nothing.
-use lib.Dec.{lit<}
 use Rattle.blocks.specs.Theorems.{Theorems}
 use Rattle.blocks.proofs.Xor.{xor-assoc, xor-comm, xor-zero, xor-self, xor-below}
 use Rattle.blocks.proofs.Bytes.{number-bytes, bytes-number, bytes-xor}
@@ -20,8 +19,8 @@ theorems = record {
   bytes-of-sum = bytes-xor;
   ring = Ring.ring;
   x-to-the-k = Ring.x-power;
-  ring-of-blocks = Ring.ring 128 0x87 (lit< tt) (lit< tt);
-  ring-of-bytes = Ring.ring 8 0x1b (lit< tt) (lit< tt);
+  ring-of-blocks = Ring.ring-of-blocks;
+  ring-of-bytes = Ring.ring-of-bytes;
   horner-rule = λ k one _·_ ring. Horner.horner-rule ring;
   count-numbers = One.count-one;
   count-strings = One.count-strings;

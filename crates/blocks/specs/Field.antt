@@ -1,6 +1,6 @@
--- The field of 2 ^ k elements as numbers below 2 ^ k, digit i the coefficient of the power i of x, with x ^ k = p.
--- 01's blocks are the field at (128, 0x87), "the polynomial with the powers 128, 7, 2, 1 and 0"; the bytes of AES are the
--- field at (8, 0x1b), FIPS 197, 4.2. The sum is exclusive or.
+-- Polynomials with coefficients 0 and 1, where x ^ k = p, as numbers below 2 ^ k: digit i is the coefficient of the power i of x, and
+-- the sum is exclusive or. 01's field of blocks is at (128, 0x87), "the polynomial with the powers 128, 7, 2, 1 and 0"; the field of
+-- bytes of AES is at (8, 0x1b), FIPS 197, 4.2. What is proved of both so far is that they are commutative rings, not that they are fields.
 use Prim.Native.Nat.{ℕ, zero, suc, _*_, _/_, _%_, _^_, _<_}
 use mathlib.Core.Path.{_≡_}
 use mathlib.Core.List.{List, [], _∷_}
@@ -62,7 +62,7 @@ module _ (k one : ℕ) (_·_ : ℕ → ℕ → ℕ) where
     pub comm : (a b : ℕ) → a < 2 ^ k → b < 2 ^ k → a · b ≡ b · a
     pub assoc : (a b c : ℕ) → a < 2 ^ k → b < 2 ^ k → c < 2 ^ k → a · b · c ≡ a · (b · c)
 
--- ---- 01's field of blocks
+-- ---- 01's blocks: x times one, the product of two, and the keyed sum of H
 
 abbrev pub xTimes : ℕ → ℕ
 xTimes = timesX 128 0x87

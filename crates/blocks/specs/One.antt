@@ -9,6 +9,7 @@ pub record ExactlyOne {A : Type 0} (P : A → Type 0) (test : A → Bool) (a : A
   pub passes : test a ≡ true
   pub only : (b : A) → P b → test b ≡ true → b ≡ a
 
+-- 1 where a test passed, and 0 where it failed.
 unfoldable pub tally : Bool → ℕ
 tally true = 1
 tally false = 0

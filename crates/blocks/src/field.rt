@@ -6,7 +6,7 @@ ghost use Rattle.blocks.specs.Field.{times01, xTimes, _•_, keyedSum};
 ghost use Rattle.blocks.specs.Block.{value};
 use crate::block::Block;
 
-// The word where `bit` is 1 and zero where it is 0, with no branch on the bit.
+// The word where `bit` is 1 and zero where it is 0: the mask is zero less the bit, which the kit compiles with no branch.
 fn masked(bit: u64, word: u64) -> u64
     requires { ⌜ bit < 2 ⌝ }
     ensures { λ r. ⌜ r ≡ times01 bit word ⌝ }

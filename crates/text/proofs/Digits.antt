@@ -2,7 +2,7 @@
 -- on the text, two characters at a time. Assumes nothing.
 use mathlib.Core.Path.{_≡_, refl, ap}
 use mathlib.Core.Logic.{_⊎_, inl, inr, ⊎-elim}
-use mathlib.Core.Bool.{Bool, true, false, cond, _&&_, _||_, and-eq-true-iff}
+use mathlib.Core.Bool.{Bool, true, false, _&&_, _||_, and-eq-true-iff}
 use mathlib.Core.List.{List, [], _∷_, _++_}
 use Prim.Native.Nat.{ℕ, zero, suc, _+_, _-_, _*_, _/_, _%_, _≤_, _<_}
 use native.Mathlib.Nat.{not-suc-le-zero, le-of-suc-le-suc}
@@ -12,8 +12,7 @@ use lib.ListN.{length, take, drop, getD, set}
 use lib.Seq.{drop-cons}
 use lib.Dec.{leb, ltb, eqb}
 use borrow.Author.Tests.{le-leb, lt-leb, lt-ltb, le-ltb, leb-true, ltb-true, ltb-false, eq-eqb, eqb-true}
-use Rattle.text.specs.Hex.{digit, isDigit, value, hex, allDigits, isHex, unhex, decodedOf}
-use Rattle.text.specs.declared.hex.Decoded.the-variants.{Bytes, Refused}
+use Rattle.text.specs.Hex.{digit, isDigit, value, hex, allDigits, isHex, unhex}
 
 -- ---- one digit
 
@@ -111,18 +110,6 @@ unhex-store (c ∷ d ∷ s) (x ∷ out) (suc i) h k =
     let e₃ : 2 * (suc i + 1) ≡ suc (suc (2 * (i + 1))) = omega arith in
     let e₄ : suc i + 1 ≡ suc (i + 1) = omega arith in
     rw (e₁, e₂, e₃, e₄) (ap (λ (l : List ℕ). (value c * 16 + value d) ∷ l) (unhex-store s out i (omega arith) (le-of-suc-le-suc k)))
-
--- ---- what `decode` wrote has room
-
-room : (m n l : ℕ) (t : Bool) → (t ≡ true → m ≤ l) → cond t (Bytes m) Refused ≡ Bytes n → n ≤ l
-room m n l true h e = let same : m ≡ n = cc in omega (arith, h refl)
-room m n l false h e = let z : _≡_ {A = ℕ} 0 1 = cc in absurd (omega arith)
-
-pub decoded-within : (s out : List ℕ) (n : ℕ) → decodedOf s out ≡ Bytes n → n ≤ length out
-unfolding decodedOf
-decoded-within s out n e =
-    room (length s / 2) n (length out) (isHex s && leb (length s / 2) (length out))
-    (λ h. leb-true (length s / 2) (length out) (and-eq-true-iff (isHex s) (leb (length s / 2) (length out)) .0 h .1)) e
 
 -- ---- the two directions undo each other
 

@@ -6,7 +6,6 @@ use Prim.Native.Nat.{ℕ, _+_, _-_, _<_}
 use native.Mathlib.Omega.{arith}
 use borrow.Author.Needs.{needs}
 use denote.Ref.{now}
-use lib.Dec.{lit<}
 use lib.ListN.{length, drop, length-drop, drop-of-length-le}
 use lib.Seq.{drop-drop}
 use Rattle.blocks.specs.Xor.{_⊕_}
@@ -16,7 +15,7 @@ use Rattle.blocks.specs.Block.{value}
 use Rattle.blocks.proofs.Bytes.{blocks-nil, blocks-cons, blocks-below}
 use Rattle.blocks.proofs.Halves.{value-below}
 use Rattle.blocks.proofs.Horner.{horner-rule}
-use Rattle.blocks.proofs.Ring.{ring}
+use Rattle.blocks.proofs.Ring.{ring-of-blocks}
 use Rattle.blocks.proofs.field.power_sum.Statement.{statement}
 use Rattle.blocks.proofs.field.power_sum.Tie as tie
 
@@ -67,7 +66,7 @@ returns c =
     let K = value (args .key) in
     let done : blocks (drop (c .before .loop .at) s) ≡ [] = rw (drop-of-length-le s (c .loop-test .left)) blocks-nil in
     (rw done at (c .before .loop .inv))
-    ∙ horner-rule (ring 128 0x87 (lit< tt) (lit< tt)) K (value-below (args .key) (search needs) (search needs)) (blocks s)
+    ∙ horner-rule ring-of-blocks K (value-below (args .key) (search needs) (search needs)) (blocks s)
     (blocks-below s (λ i. c .before .before .shared-slice-known .given i .fits))
 
 pub power-sum-spec : {M : Type 1} → statement M
