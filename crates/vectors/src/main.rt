@@ -15,39 +15,25 @@ use libc::STDOUT_FILENO;
 // The most characters that a line may have in front of its line feed.
 const LIMIT: usize = 16384;
 
-// What one read brought: the number of characters of the line that is under way, or the input's end.
-enum Turn {
-    Read(usize),
-    End,
-}
-
 // A proved loop has to end, and nothing says that the input does. So the loop counts its turns down,
 // from a number that no run uses up.
 fn main() {
     let mut line = [0u8; LIMIT];
+    let mut chunk = io::large_buffer();
     let mut count = 0;
     let mut turns = u64::MAX;
     while turns > 0 {
-        let Turn::Read(n) = step(&mut line, count) else {
+        let got = libc::read(STDIN_FILENO, &mut chunk);
+        let n = io::count(got, &chunk);
+        if n == 0 {
             break;
-        };
-        count = n;
+        }
+        count = lines(&mut line, count, &chunk[..n]);
         turns -= 1;
     }
     if count > 0 {
         answer(&line, count);
     }
-}
-
-// Reads once, and answers each line that ends in what came.
-fn step(line: &mut [u8], count: usize) -> Turn {
-    let mut chunk = io::large_buffer();
-    let got = libc::read(STDIN_FILENO, &mut chunk);
-    let n = io::count(got, &chunk);
-    if n == 0 {
-        return Turn::End;
-    }
-    Turn::Read(lines(line, count, &chunk[..n]))
 }
 
 // Goes on with the line under way, of `count` characters, answers it where it ends, and so with each

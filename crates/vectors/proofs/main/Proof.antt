@@ -1,32 +1,46 @@
--- `vectors::main` is safe and ends: the measure is the number of turns that are left, and the buffer keeps its length.
+-- The measure is the number of turns that are left, and both buffers keep their lengths.
 use borrow.Author.Needs.{needs}
-use mathlib.Core.Path.{_≡_, refl, ap}
-use mathlib.Core.Logic.{⊎-elim}
+use mathlib.Core.Path.{_≡_, refl}
 use native.Mathlib.Omega.{arith}
 use lib.ListN.{length}
 use Rattle.vectors.proofs.main.Statement.{statement}
 use Rattle.vectors.proofs.main.Tie as tie
 
 abbrev Inv-loop : tie.InvT-loop
-Inv-loop line₀ count₀ turns₀ line count turns = length line ≡ 16384
+Inv-loop line₀ chunk₀ count₀ turns₀ line chunk count turns = (length line ≡ 16384) × (length chunk ≡ 65536)
 
 abbrev μ-loop : tie.MeasureT-loop
-μ-loop line₀ count₀ turns₀ line count turns = turns
+μ-loop line₀ chunk₀ count₀ turns₀ line chunk count turns = turns
+
+large-buffer-requires : tie.Need-large-buffer-requires Inv-loop μ-loop
+large-buffer-requires c κs = tt
 
 loop-holds : tie.Need-loop-holds Inv-loop μ-loop
-loop-holds c = refl
+loop-holds c = (refl, search needs)
 
-slice-aggregate-step : tie.Need-slice-aggregate-step Inv-loop μ-loop
-slice-aggregate-step c = omega arith
+slice-aggregate-read : tie.Need-slice-aggregate-read Inv-loop μ-loop
+slice-aggregate-read c = omega arith
 
-step-requires : tie.Need-step-requires Inv-loop μ-loop
-step-requires c κs = tt
+read-requires : tie.Need-read-requires Inv-loop μ-loop
+read-requires c κs = search needs
 
-enum-known-n : tie.Need-enum-known-n Inv-loop μ-loop
-enum-known-n c = search needs
+slice-aggregate-count : tie.Need-slice-aggregate-count Inv-loop μ-loop
+slice-aggregate-count c = omega arith
 
-enum-told : tie.Need-enum-told Inv-loop μ-loop
-enum-told c = search needs
+count-requires : tie.Need-count-requires Inv-loop μ-loop
+count-requires c κs = search needs
+
+slice-aggregate-lines : tie.Need-slice-aggregate-lines Inv-loop μ-loop
+slice-aggregate-lines c = omega arith
+
+array-share-prefix-chunk : tie.Need-array-share-prefix-chunk Inv-loop μ-loop
+array-share-prefix-chunk c = search needs
+
+slice-aggregate-lines-2 : tie.Need-slice-aggregate-lines-2 Inv-loop μ-loop
+slice-aggregate-lines-2 c = search needs
+
+lines-requires : tie.Need-lines-requires Inv-loop μ-loop
+lines-requires c κs = tt
 
 sub-turns : tie.Need-sub-turns Inv-loop μ-loop
 sub-turns c = omega arith
@@ -35,10 +49,10 @@ loop-less : tie.Need-loop-less Inv-loop μ-loop
 loop-less c = omega arith
 
 loop-again : tie.Need-loop-again Inv-loop μ-loop
-loop-again c = omega arith
+loop-again c = (omega arith, omega arith)
 
 slice-aggregate-answer : tie.Need-slice-aggregate-answer Inv-loop μ-loop
-slice-aggregate-answer c = ⊎-elim (λ w. omega (arith, ap length (w .1))) (λ w. omega (arith, ap length (w .6))) (c .before .before .loop-test .came)
+slice-aggregate-answer c = omega arith
 
 answer-requires : tie.Need-answer-requires Inv-loop μ-loop
 answer-requires c κs = tt
@@ -55,11 +69,16 @@ main-spec =
     (tie.spec
     Inv-loop
     μ-loop
+    large-buffer-requires
     loop-holds
-    slice-aggregate-step
-    step-requires
-    enum-known-n
-    enum-told
+    slice-aggregate-read
+    read-requires
+    slice-aggregate-count
+    count-requires
+    slice-aggregate-lines
+    array-share-prefix-chunk
+    slice-aggregate-lines-2
+    lines-requires
     sub-turns
     loop-less
     loop-again
