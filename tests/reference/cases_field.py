@@ -8,12 +8,11 @@ Each group of cases draws from a generator with a seed of its own, so that a
 change to one group leaves the others as they were.
 """
 
-import random
 import re
 
 import field
 from field import ONES, TOP, to_text
-from lines import LONGEST, NO, line
+from lines import LONGEST, NO, drawer, line
 
 SPECIAL = [0, 1, 2, TOP, ONES, 0x87]
 LENGTHS = [0, 1, 2, 3, 4, 7, 16, 31, 32, 255, 256]
@@ -35,12 +34,6 @@ def m_case(a, b):
 def s_case(r, blocks):
     answer = to_text(field.power_sum(r, blocks)).encode("ascii")
     return line("s", to_text(r), *map(to_text, blocks)), answer
-
-
-def drawer(seed):
-    """A function that draws the next random block."""
-    rng = random.Random(seed)
-    return lambda: rng.getrandbits(128)
 
 
 def times_x_cases():

@@ -2,14 +2,14 @@
 -- Assumes nothing.
 use Prim.Native.Nat.{ℕ, zero, suc, _+_, _-_, _*_, _/_, _%_, _^_, _≤_, _<_}
 use mathlib.Core.Path.{_≡_, refl, ap}
-use mathlib.Core.List.{List, [], _∷_, _++_}
+use mathlib.Core.List.{List, [], _∷_, _++_, append-nil}
 use native.Mathlib.Nat.{zero-add, suc-add, add-assoc, add-mul, mul-assoc, mul-comm, mul-zero, mul-suc, pow-zero, pow-suc, pow-succ', one-le-pow, sub-zero, suc-sub-suc, le-refl, mod-eq-of-lt, div-div-eq-div-mul, mul-add-div-right, mul-add-mod-self-right}
 use native.Mathlib.Numerals.{one-add}
 use native.Mathlib.Omega.{arith}
 use lib.Arith.{digits-lt, digits-div, mod-mul}
 use lib.Pow.{pow-add, pow-pos}
 use lib.ListN.{length, getD, take, drop, replicate, length-append, length-drop, length-replicate, List·getD-eq-default}
-use lib.Seq.{getD-drop, drop-drop}
+use lib.Seq.{getD-drop, drop-drop, take-all}
 use Rattle.blocks.specs.Xor.{_⊕_, xorBytes}
 use Rattle.blocks.specs.Bytes.{Below, Bytes, number, bytes, pad, block, cut, blocks}
 use Rattle.blocks.proofs.Xor.{xor-cancel-right, xor-shr, xor-mod}
@@ -150,6 +150,10 @@ take-zeros (suc n) (a ∷ s) = rw (suc-sub-suc, take-zeros n s)
 pub block-padded : (s : List ℕ) → block s ≡ number (padded 16 s)
 unfolding block pad
 block-padded s = ap number (take-zeros 16 s)
+
+pub block-whole : (s : List ℕ) → length s ≡ 16 → block s ≡ number s
+unfolding block pad
+block-whole s h = ap number (rw (take-all 16 s (omega arith), h, append-nil))
 
 pub length-pad : (s : List ℕ) → length s ≤ 16 → length (pad s) ≡ 16
 unfolding pad

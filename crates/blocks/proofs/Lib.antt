@@ -1,5 +1,8 @@
 pub mod Xor
 pub mod Bytes
+pub mod Arrays
+pub mod Words
+pub mod Filled
 pub mod Place
 pub mod One
 pub mod Ring
@@ -7,4 +10,10 @@ pub mod Horner
 pub mod Halves
 pub mod Steps
 pub mod Examples
+pub mod Table
+pub mod Inverse
+pub mod Substitution
+pub mod Permutations
+pub mod Columns
+pub mod Rounds
 pub mod Theorems

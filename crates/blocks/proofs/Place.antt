@@ -2,13 +2,13 @@
 -- Assumes nothing.
 use Prim.Native.Nat.{ℕ, zero, suc, _+_, _*_, _/_, _%_, _^_, _≤_, _<_}
 use mathlib.Core.Path.{_≡_}
-use mathlib.Core.List.{List, [], _∷_, _++_}
+use mathlib.Core.List.{List, [], _∷_, _++_, append-nil}
 use native.Mathlib.Nat.{sub-zero, zero-add, add-suc, pow-suc, div-div-eq-div-mul, add-zero, zero-sub, suc-sub-suc, suc-add, pow-le-pow-right, lt-of-lt-of-le}
 use native.Mathlib.Numerals.{add-one}
 use native.Mathlib.Omega.{arith}
 use lib.Arith.{digits-div}
 use lib.ListN.{length, getD, drop, set, take-append-drop, length-set}
-use lib.Seq.{getD-drop, drop-drop, take-nil, drop-nil, set-out, set-comm}
+use lib.Seq.{getD-drop, drop-drop, take-nil, take-all, drop-nil, drop-length, set-out, set-comm}
 use Rattle.blocks.specs.Bytes.{Bytes, number, bytes, block, overwrite}
 use Rattle.blocks.proofs.Bytes.{bytes-append, bytes-above, number-below, number-append, padded, length-padded, padded-below, padded-suc, padded-add, block-padded, below-drop}
 
@@ -40,6 +40,11 @@ join-halves at s h = rw (high-half at s h, high-half (at + 8) s h, halves at s)
 pub overwrite-nil : (i : ℕ) (s : List ℕ) → overwrite i [] s ≡ s
 unfolding overwrite
 overwrite-nil i s = rw (take-nil, add-zero, take-append-drop)
+
+pub overwrite-whole : (t s : List ℕ) → length t ≡ length s → overwrite 0 t s ≡ t
+unfolding overwrite
+overwrite-whole t s h =
+    rw (sub-zero, zero-add, h, drop-length s, append-nil) (take-all (length s) t (omega arith))
 
 overwrite-empty : (i : ℕ) (t : List ℕ) → overwrite i t [] ≡ []
 unfolding overwrite

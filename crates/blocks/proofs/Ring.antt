@@ -87,10 +87,10 @@ module _ (k p : ℕ) where
   unfolding timesX
   x-add a b = simp (double-add, xor-shr k, add-times01, xor-mod k, xor-laws)
 
-  x-zero : timesX k p 0 ≡ 0
+  pub x-zero : timesX k p 0 ≡ 0
   x-zero = additive-zero (timesX k p) x-add
 
-  x-below : p < 2 ^ k → (a : ℕ) → timesX k p a < 2 ^ k
+  pub x-below : p < 2 ^ k → (a : ℕ) → timesX k p a < 2 ^ k
   unfolding timesX
   x-below hp a = xor-below k (times01-below (2 * a / 2 ^ k % 2) (pow-pos k) hp) (mod-lt (2 * a) (pow-pos k))
 

@@ -2,5 +2,7 @@ pub mod Xor
 pub mod Bytes
 pub mod Field
 pub mod One
+pub mod Permutation
+pub mod Aes
 pub mod Block
 pub mod Theorems

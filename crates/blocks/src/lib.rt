@@ -1,3 +1,6 @@
-// Byte strings as blocks, and the field of 2^128 elements.
+// Byte strings as blocks, the field of 2^128 elements, and AES.
+pub mod aes;
 pub mod block;
+mod boxes;
 pub mod field;
+mod state;

@@ -5,8 +5,11 @@
 //     x a             a times x
 //     m a b           the product of a and b
 //     s r a1 .. an    the keyed sum of the blocks a1 .. an, n from 0 on, with the key r
+//     ae k a          a enciphered by AES-128 under the key k
+//     ad k a          a deciphered
 mod fields;
 
+use blocks::aes::ExpandedKey;
 use blocks::block::Block;
 use blocks::field;
 use libc::STDIN_FILENO;
@@ -63,21 +66,32 @@ fn answer(line: &[u8], count: usize) {
     io::write_all(STDOUT_FILENO, b"no\n");
 }
 
-// Writes the answer to a line and says so, or writes nothing. A command is a letter and a space, and its fields come after.
+// Writes the answer to a line and says so, or writes nothing. The command ends at the first space, and its fields come after.
 fn reply(line: &[u8]) -> bool {
-    if line.len() < 2 {
-        return false;
-    }
-    if line[1] != b' ' {
+    let end = text::line::find(line, 0, b' ');
+    if end >= line.len() {
         return false;
     }
     let mut data = [0u8; LIMIT / 2];
-    let n = fields::blocks_from(line, 2, &mut data);
-    run(line[0], &data[0..n])
+    let n = fields::blocks_from(line, end + 1, &mut data);
+    run(&line[0..end], &data[0..n])
 }
 
 // A command on the bytes of its blocks.
-fn run(command: u8, data: &[u8]) -> bool {
+fn run(command: &[u8], data: &[u8]) -> bool {
+    if command.len() == 1 {
+        return ring(command[0], data);
+    }
+    if command.len() == 2 {
+        if command[0] == b'a' {
+            return aes(command[1], data);
+        }
+    }
+    false
+}
+
+// The products of blocks.
+fn ring(command: u8, data: &[u8]) -> bool {
     let n = data.len();
     if n < 16 {
         return false;
@@ -93,6 +107,24 @@ fn run(command: u8, data: &[u8]) -> bool {
     }
     if command == b's' {
         fields::put_block(field::power_sum(a, &data[16..]));
+        return true;
+    }
+    false
+}
+
+// A block under a key, one way or the other.
+fn aes(direction: u8, data: &[u8]) -> bool {
+    if data.len() != 32 {
+        return false;
+    }
+    let key = ExpandedKey::new(&data[0..16]);
+    let block = Block::read(data, 16);
+    if direction == b'e' {
+        fields::put_block(key.encipher(block));
+        return true;
+    }
+    if direction == b'd' {
+        fields::put_block(key.decipher(block));
         return true;
     }
     false

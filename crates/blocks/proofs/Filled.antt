@@ -1,0 +1,80 @@
+-- Lists by their entries: an array that a loop fills from the front, and the list that it has become.
+-- Assumes nothing.
+use Prim.Native.Nat.{ℕ, zero, suc, _+_, _≤_, _<_, zero-le}
+use mathlib.Core.Path.{_≡_, refl, sym, ap, _∙_}
+use mathlib.Core.List.{List, [], _∷_}
+use mathlib.Core.Logic.{⊎-elim}
+use native.Mathlib.Nat.{le-of-suc-le-suc, not-suc-le-zero, eq-or-lt-of-le}
+use native.Mathlib.Omega.{arith}
+use lib.ListN.{length, getD, set, length-set}
+use Rattle.blocks.specs.Bytes.{Below}
+use lib.Seq.{getD-set-same, getD-set-other, ext-getD}
+
+-- The first i of n entries are g's.
+pub record Filled (n i : ℕ) (g : ℕ → ℕ) (s : List ℕ) : Type 0 where
+  pub within : i ≤ n
+  pub same-length : length s ≡ n
+  pub front : (j : ℕ) → j < i → getD s j 0 ≡ g j
+
+pub none-filled : (n : ℕ) (g : ℕ → ℕ) {s : List ℕ} → length s ≡ n → Filled n 0 g s
+none-filled n g h = record { within = zero-le; same-length = h; front = λ j l. absurd (not-suc-le-zero l) }
+
+pub one-filled : {n i : ℕ} {g : ℕ → ℕ} {s : List ℕ} (v : ℕ) → Filled n i g s → i < n → v ≡ g i → Filled n (i + 1) g (set s i v)
+one-filled {n} {i} {g} {s} v f h e =
+    record {
+      within = omega arith;
+      same-length = length-set s i v ∙ f .same-length;
+      front = λ j l.
+          ⊎-elim (λ (k : j ≡ i). rw k (getD-set-same s i v 0 (omega (arith, f .same-length)) ∙ e))
+          (λ (k : j < i). getD-set-other s i j v 0 (λ q. omega arith) ∙ f .front j k) (eq-or-lt-of-le (le-of-suc-le-suc (omega arith)));
+    }
+
+pub four-filled : {n i : ℕ} {g : ℕ → ℕ} {s : List ℕ} (a b c d : ℕ) → Filled n i g s → i + 3 < n
+    → a ≡ g i → b ≡ g (i + 1) → c ≡ g (i + 2) → d ≡ g (i + 3)
+    → Filled n (i + 4) g (set (set (set (set s i a) (i + 1) b) (i + 2) c) (i + 3) d)
+four-filled {n} {i} a b c d f h ea eb ec ed =
+    let two : i + 1 + 1 ≡ i + 2 = omega arith in
+    let three : i + 2 + 1 ≡ i + 3 = omega arith in
+    let four : i + 3 + 1 ≡ i + 4 = omega arith in
+    let f₂ = rw two at (one-filled b (one-filled a f (omega arith) ea) (omega arith) eb) in
+    let f₃ = rw three at (one-filled c f₂ (omega arith) ec) in
+    rw four at (one-filled d f₃ (omega arith) ed)
+
+pub refilled : {n i : ℕ} {g h : ℕ → ℕ} {s : List ℕ} → ((j : ℕ) → g j ≡ h j) → Filled n i g s → Filled n i h s
+refilled e f = record { within = f .within; same-length = f .same-length; front = λ j l. f .front j l ∙ e j }
+
+-- The list g 0, .., g (n - 1).
+unfoldable pub listed : ℕ → (ℕ → ℕ) → List ℕ
+listed zero g = []
+listed (suc n) g = g 0 ∷ listed n (λ i. g (suc i))
+
+length-listed : (n : ℕ) (g : ℕ → ℕ) → length (listed n g) ≡ n
+unfolding listed
+length-listed zero g = refl
+length-listed (suc n) g = ap suc (length-listed n (λ i. g (suc i)))
+
+getD-listed : (n : ℕ) (g : ℕ → ℕ) (j : ℕ) → j < n → getD (listed n g) j 0 ≡ g j
+unfolding listed
+getD-listed zero g j h = absurd (not-suc-le-zero h)
+getD-listed (suc n) g zero h = refl
+getD-listed (suc n) g (suc j) h = getD-listed n (λ i. g (suc i)) j (le-of-suc-le-suc h)
+
+pub listed-below : {m : ℕ} (n : ℕ) (g : ℕ → ℕ) → ((i : ℕ) → g i < m) → Below m (listed n g)
+unfolding listed
+listed-below zero g h i = let l = h 0 in omega arith
+listed-below (suc n) g h zero = h 0
+listed-below (suc n) g h (suc i) = listed-below n (λ j. g (suc j)) (λ j. h (suc j)) i
+
+pub listed-entries : (s : List ℕ) → listed (length s) (λ i. getD s i 0) ≡ s
+unfolding listed
+listed-entries [] = refl
+listed-entries (a ∷ s) = rw (listed-entries s)
+
+-- Filled to its end, the array is any list with g's entries, and so it is the list of them.
+pub all-filled-with : {n i : ℕ} {g : ℕ → ℕ} {s : List ℕ} (l : List ℕ) → length l ≡ n → ((j : ℕ) → j < n → getD l j 0 ≡ g j) → Filled n i g s → n ≤ i → s ≡ l
+all-filled-with {n} {i} {g} {s} l e eq f h =
+    ext-getD 0 s l (f .same-length ∙ sym e)
+    (λ j k. f .front j (omega (arith, f .same-length)) ∙ sym (eq j (omega (arith, f .same-length))))
+
+pub all-filled : {n i : ℕ} {g : ℕ → ℕ} {s : List ℕ} → Filled n i g s → n ≤ i → s ≡ listed n g
+all-filled {n} {i} {g} = all-filled-with (listed n g) (length-listed n g) (getD-listed n g)

@@ -1,0 +1,117 @@
+-- The words of a key: their bytes, the round constants, and KeyExpansion word by word.
+-- Assumes nothing.
+use Prim.Native.Nat.{ℕ, zero, suc, _+_, _-_, _*_, _/_, _%_, _^_, _≤_, _<_}
+use mathlib.Core.Path.{_≡_, refl, sym, ap, _∙_}
+use mathlib.Core.Bool.{Bool, true, false, _&&_}
+use mathlib.Core.List.{List, [], _∷_, _++_}
+use mathlib.Core.Logic.{_⊎_, inl, inr, ⊎-elim}
+use native.Mathlib.Nat.{add-zero, zero-add, add-assoc, eq-or-lt-of-le, eq-zero-or-pos, le-of-suc-le-suc, not-suc-le-zero}
+use native.Mathlib.Omega.{arith}
+use borrow.Author.Tests.{lt-ltb, le-ltb, eq-eqb, ne-eqb}
+use lib.Arith.{digits-div}
+use lib.Dec.{T, ltb, eqb, eqb→eq}
+use lib.ListN.{length, getD, drop, length-append, List·getD-append}
+use lib.Seq.{getD-at, getD-drop, drop-drop}
+use Rattle.blocks.specs.Xor.{_⊕_}
+use Rattle.blocks.specs.Bytes.{Bytes, number, bytes, block}
+use Rattle.blocks.specs.Field.{power}
+use Rattle.blocks.specs.Aes.{_·_, box, word, byteOf, rotWord, subWord, rcon, Constants, choose, temp, keyWord, keyWords}
+use Rattle.blocks.proofs.Bytes.{bytes-below, bytes-number, number-append, padded, padded-add}
+use Rattle.blocks.proofs.Table.{both}
+use Rattle.blocks.proofs.Place.{number-fits, high-half}
+
+pub byteOf-below : (w i : ℕ) → byteOf w i < 256
+unfolding byteOf
+byteOf-below w i = bytes-below 4 w i
+
+four : (a b c d : ℕ) → a < 256 → b < 256 → c < 256 → d < 256 → Bytes (a ∷ b ∷ c ∷ d ∷ [])
+four a b c d ha hb hc hd zero = ha
+four a b c d ha hb hc hd (suc zero) = hb
+four a b c d ha hb hc hd (suc (suc zero)) = hc
+four a b c d ha hb hc hd (suc (suc (suc zero))) = hd
+four a b c d ha hb hc hd (suc (suc (suc (suc i)))) = omega arith
+
+rot-bytes : (w : ℕ) → bytes 4 (rotWord w) ≡ byteOf w 1 ∷ byteOf w 2 ∷ byteOf w 3 ∷ byteOf w 0 ∷ []
+unfolding rotWord word
+rot-bytes w =
+    bytes-number (byteOf w 1 ∷ byteOf w 2 ∷ byteOf w 3 ∷ byteOf w 0 ∷ [])
+    (four (byteOf w 1) (byteOf w 2) (byteOf w 3) (byteOf w 0) (byteOf-below w 1) (byteOf-below w 2) (byteOf-below w 3) (byteOf-below w 0))
+
+pub sub-rot : (w : ℕ) → subWord (rotWord w) ≡ word (box (byteOf w 1)) (box (byteOf w 2)) (box (byteOf w 3)) (box (byteOf w 0))
+unfolding subWord byteOf
+sub-rot w = ap (λ (s : List ℕ). word (box (getD s 0 0)) (box (getD s 1 0)) (box (getD s 2 0)) (box (getD s 3 0))) (rot-bytes w)
+
+-- The highest word of a block that is read.
+pub read-word : (at : ℕ) (s : List ℕ) → Bytes s
+    → block (drop at s) / 2 ^ 64 / 2 ^ 32 ≡ word (getD s at 0) (getD s (at + 1) 0) (getD s (at + 2) 0) (getD s (at + 3) 0)
+unfolding word padded
+read-word at s h =
+    let t = drop at s in
+    let low : number (padded 4 (drop 4 t)) < 256 ^ 4 = rw drop-drop (number-fits 4 4 (at + 4) s h (omega arith)) in
+    rw (high-half at s h, padded-add 4 4 t, number-append, digits-div (number (padded 4 t)) low) (simp (getD-drop, drop-drop, add-zero, add-assoc))
+
+-- The test of the round constants: the first is x, and each is twice the one before it.
+unfoldable pub doubling : ℕ → List ℕ → Bool
+doubling x [] = true
+doubling x (y ∷ t) = eqb y x && doubling (0x02 · x) t
+
+doubled : (k : ℕ) (t : List ℕ) → T (doubling (power 1 _·_ 0x02 k) t) → (j : ℕ) → j < length t → getD t j 0 ≡ power 1 _·_ 0x02 (k + j)
+unfolding doubling power
+doubled k [] h j l = absurd (not-suc-le-zero l)
+doubled k (y ∷ t) h zero l = rw add-zero (eqb→eq y (power 1 _·_ 0x02 k) (both (eqb y (power 1 _·_ 0x02 k)) (doubling (power 1 _·_ 0x02 (suc k)) t) h .0))
+doubled k (y ∷ t) h (suc j) l =
+    let n : k + suc j ≡ suc k + j = omega arith in
+    rw n (doubled (suc k) t (both (eqb y (power 1 _·_ 0x02 k)) (doubling (power 1 _·_ 0x02 (suc k)) t) h .1) j (le-of-suc-le-suc l))
+
+pub constants : {n : ℕ} {t : List ℕ} → length t ≡ n → T (doubling 1 t) → Constants n t
+unfolding power
+constants {n} {t} e h = record { constant = λ j l. rw zero-add at (doubled 0 t h j (rw e l)) }
+
+-- Word i of a key: the key's own, one in the middle of Nk, or the first of Nk.
+module _ (Nk : ℕ) (key : List ℕ) (i : ℕ) (w : List ℕ) where
+  pub own-word : i < Nk → keyWord Nk key i w ≡ word (getD key (4 * i) 0) (getD key (4 * i + 1) 0) (getD key (4 * i + 2) 0) (getD key (4 * i + 3) 0)
+  unfolding keyWord
+  own-word h = rw (lt-ltb i Nk h)
+
+  pub next-word : Nk ≤ i → keyWord Nk key i w ≡ getD w (i - Nk) 0 ⊕ temp Nk i (getD w (i - 1) 0)
+  unfolding keyWord
+  next-word h = rw (le-ltb i Nk h)
+
+  pub middle-word : Nk ≤ i → Nk ≤ 6 → 0 < i % Nk → keyWord Nk key i w ≡ getD w (i - Nk) 0 ⊕ getD w (i - 1) 0
+  unfolding temp
+  middle-word h small m = rw (next-word h, ne-eqb (i % Nk) 0 (λ e. omega arith), le-ltb 6 Nk small)
+
+  pub first-word : Nk ≤ i → i % Nk ≡ 0 → keyWord Nk key i w ≡ getD w (i - Nk) 0 ⊕ (subWord (rotWord (getD w (i - 1) 0)) ⊕ rcon (i / Nk))
+  unfolding temp
+  first-word h z = rw (next-word h, eq-eqb (i % Nk) 0 z)
+
+-- The words one after the other, and each from those before it.
+pub length-keyWords : (Nk : ℕ) (key : List ℕ) (n : ℕ) → length (keyWords Nk key n) ≡ n
+unfolding keyWords
+length-keyWords Nk key zero = refl
+length-keyWords Nk key (suc n) = rw (length-append, length-keyWords Nk key n) (omega arith)
+
+keyWords-at : (Nk : ℕ) (key : List ℕ) (n i : ℕ) → i < n → getD (keyWords Nk key n) i 0 ≡ keyWord Nk key i (keyWords Nk key i)
+unfolding keyWords
+keyWords-at Nk key zero i h = absurd (not-suc-le-zero h)
+keyWords-at Nk key (suc n) i h =
+    let len = length-keyWords Nk key n in
+    ⊎-elim
+    (λ (e : i ≡ n). rw e (getD-at (keyWords Nk key n) (keyWord Nk key n (keyWords Nk key n)) [] 0 n len))
+    (λ (l : i < n). List·getD-append (keyWords Nk key n) (keyWord Nk key n (keyWords Nk key n) ∷ []) 0 i (rw len l) ∙ keyWords-at Nk key n i l)
+    (eq-or-lt-of-le (le-of-suc-le-suc h))
+
+-- A word is settled by those before it.
+keyWord-same : (Nk : ℕ) (key : List ℕ) (i : ℕ) (v w : List ℕ) → 0 < Nk → ((j : ℕ) → j < i → getD v j 0 ≡ getD w j 0) → keyWord Nk key i v ≡ keyWord Nk key i w
+keyWord-same Nk key i v w pos same =
+    ⊎-elim
+    (λ (l : i < Nk). own-word Nk key i v l ∙ sym (own-word Nk key i w l))
+    (λ (h : Nk ≤ i). rw (next-word Nk key i v h, next-word Nk key i w h, same (i - Nk) (omega arith), same (i - 1) (omega arith)))
+    (⊎-elim (λ (e : Nk - i ≡ 0). inr (omega arith)) (λ (l : 0 < Nk - i). inl (omega arith)) (eq-zero-or-pos (Nk - i)))
+
+pub word-at : (Nk : ℕ) (key : List ℕ) (n i : ℕ) (w : List ℕ) → 0 < Nk → i < n → ((j : ℕ) → j < i → getD w j 0 ≡ getD (keyWords Nk key n) j 0)
+    → keyWord Nk key i w ≡ getD (keyWords Nk key n) i 0
+word-at Nk key n i w pos h same =
+    keyWord-same Nk key i w (keyWords Nk key i) pos
+    (λ j l. same j l ∙ keyWords-at Nk key n j (omega arith) ∙ sym (keyWords-at Nk key i j l))
+    ∙ sym (keyWords-at Nk key n i h)

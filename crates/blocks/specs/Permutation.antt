@@ -1,0 +1,22 @@
+-- Permutations with their inverses: of bytes, of states, of blocks.
+use Prim.Native.Nat.{ℕ, _^_, _<_}
+use mathlib.Core.Path.{_≡_}
+
+-- f and g keep what has P, and each undoes the other there.
+pub record Permutation {A : Type 0} (P : A → Type 0) (f g : A → A) : Type 0 where
+  pub keeps : (a : A) → P a → P (f a)
+  pub inverse-keeps : (a : A) → P a → P (g a)
+  pub undone : (a : A) → P a → g (f a) ≡ a
+  pub undoes : (a : A) → P a → f (g a) ≡ a
+
+abbrev pub Block : ℕ → Type 0
+Block b = b < 2 ^ 128
+
+-- A block cipher under one key: E enciphers a block, D deciphers it.
+pub record BlockCipher : Type 0 where
+  pub E : ℕ → ℕ
+  pub D : ℕ → ℕ
+
+-- 01, "A block permutation is a function from blocks to blocks that has an inverse: each of the two undoes the other on every block".
+abbrev pub BlockPermutation : BlockCipher → Type 0
+BlockPermutation c = Permutation Block (c .E) (c .D)

@@ -1,0 +1,92 @@
+// The steps of AES's rounds, FIPS 197, 5.1 and 5.3. A state is 16 bytes, of which byte r + 4c stands in row r, column c.
+ghost use Prim.Native.Nat.{_≤_, _<_};
+ghost use mathlib.Core.Path.{_≡_};
+ghost use lib.ListN.{getD};
+ghost use Rattle.blocks.specs.Aes.{Substituted, shiftRows, mixed, mixColumns, addRoundKey, invShiftRows, invMixColumns, byteOf, Nr, roundKey};
+
+// The entry at a byte.
+pub(crate) fn look(table: &[u8; 256], b: u8) -> u8
+    ensures { λ r. ⌜ r ≡ getD (now (table .entry)) b 0 ⌝ }
+{
+    table[b as usize]
+}
+
+// SubBytes, or its inverse, by the box that is lent.
+pub(crate) fn sub_bytes(table: &[u8; 256], s: [u8; 16]) -> [u8; 16]
+    ensures { λ x. ⌜ Substituted (now (table .entry)) s x ⌝ }
+{
+    let mut t = [0u8; 16];
+    for i in 0..16usize {
+        t[i] = look(table, s[i]);
+    }
+    t
+}
+
+pub(crate) fn shift_rows(s: [u8; 16]) -> [u8; 16]
+    ensures { λ x. ⌜ x ≡ shiftRows s ⌝ }
+{
+    let mut t = [0u8; 16];
+    for i in 0..16usize {
+        t[i] = s[5 * i % 16];
+    }
+    t
+}
+
+// Each row has four columns, so that three shifts undo one.
+pub(crate) fn inv_shift_rows(s: [u8; 16]) -> [u8; 16]
+    ensures { λ x. ⌜ x ≡ invShiftRows s ⌝ }
+{
+    shift_rows(shift_rows(shift_rows(s)))
+}
+
+// A byte of a mixed column: x (a + b) + b + c + d.
+fn mix(a: u8, b: u8, c: u8, d: u8) -> u8
+    ensures { λ x. ⌜ x ≡ mixed a b c d ⌝ }
+{
+    let e = a ^ b;
+    (e << 1) ^ ((e >> 7) * 0x1b) ^ b ^ c ^ d
+}
+
+pub(crate) fn mix_columns(s: [u8; 16]) -> [u8; 16]
+    ensures { λ x. ⌜ x ≡ mixColumns s ⌝ }
+{
+    let mut t = [0u8; 16];
+    for j in 0..4usize {
+        let i = 4 * j;
+        let a = s[i];
+        let b = s[i + 1];
+        let c = s[i + 2];
+        let d = s[i + 3];
+        t[i] = mix(a, b, c, d);
+        t[i + 1] = mix(b, c, d, a);
+        t[i + 2] = mix(c, d, a, b);
+        t[i + 3] = mix(d, a, b, c);
+    }
+    t
+}
+
+// The fourth power of the mixing's matrix is the identity, so that three mixings undo one.
+pub(crate) fn inv_mix_columns(s: [u8; 16]) -> [u8; 16]
+    ensures { λ x. ⌜ x ≡ invMixColumns s ⌝ }
+{
+    mix_columns(mix_columns(mix_columns(s)))
+}
+
+// Byte i of a word, the highest first.
+pub(crate) fn byte(w: u32, i: usize) -> u8
+    requires { ⌜ i < 4 ⌝ }
+    ensures { λ r. ⌜ r ≡ byteOf w i ⌝ }
+{
+    ((w >> (24 - 8 * i)) % 256) as u8
+}
+
+pub(crate) fn add_round_key(words: &[u32; 44], n: usize, s: [u8; 16]) -> [u8; 16]
+    requires { ⌜ n ≤ Nr 4 ⌝ }
+    ensures { λ x. ⌜ x ≡ addRoundKey (roundKey (now (words .entry)) n) s ⌝ }
+{
+    let mut t = [0u8; 16];
+    for i in 0..16usize {
+        t[i] = s[i] ^ byte(words[4 * n + i / 4], i % 4);
+    }
+    t
+}

@@ -1,0 +1,167 @@
+"""AES, written from FIPS 197 alone.
+
+A block, a state and a word are bytes objects. The byte in row r and column c
+of a state is the byte r + 4c, so a column is four neighbouring bytes. The
+length of the key decides Nk and with it the number of rounds; the cases use
+keys of 16 bytes only.
+"""
+
+import functools
+
+
+def multiply(a, b):
+    """a times b in the field of 256, reduced by 11b (hexadecimal)."""
+    result = 0
+    while b:
+        if b & 1:
+            result ^= a
+        a <<= 1
+        if a & 0x100:
+            a ^= 0x11b
+        b >>= 1
+    return result
+
+
+def inverse(a):
+    """The byte whose product with a is 1, by search; 0 is sent to 0."""
+    return next((b for b in range(256) if multiply(a, b) == 1), 0)
+
+
+def affine(b):
+    """Bit i of the result is the sum of bits i, i + 4, .., i + 7 of b, the
+    places taken modulo 8, and of bit i of 63 (hexadecimal)."""
+    result = 0x63
+    for i in range(8):
+        for step in (0, 4, 5, 6, 7):
+            result ^= (b >> (i + step) % 8 & 1) << i
+    return result
+
+
+BOX = bytes(affine(inverse(a)) for a in range(256))
+INV_BOX = bytes(BOX.index(a) for a in range(256))
+
+# The products of a factor of MixColumns or its inverse with each byte: made
+# once, for speed.
+PRODUCTS = [bytes(multiply(a, b) for b in range(256)) for a in range(16)]
+
+
+def xor(a, b):
+    return bytes(x ^ y for x, y in zip(a, b, strict=True))
+
+
+def key_expansion(key):
+    """The 4 (Nr + 1) words of the expanded key."""
+    nk = len(key) // 4
+    assert len(key) == 4 * nk and nk in (4, 6, 8)
+    words = [key[4 * i:4 * i + 4] for i in range(nk)]
+    constant = 1
+    for i in range(nk, 4 * (nk + 7)):
+        word = words[-1]
+        if i % nk == 0:
+            word = sub_bytes(word[1:] + word[:1])
+            word = xor(word, bytes([constant, 0, 0, 0]))
+            constant = multiply(constant, 2)
+        elif nk > 6 and i % nk == 4:
+            word = sub_bytes(word)
+        words.append(xor(words[-nk], word))
+    return words
+
+
+@functools.cache  # many cases share a key
+def round_keys(key):
+    """The expanded key in blocks of four words, one for each AddRoundKey."""
+    words = key_expansion(key)
+    return [b"".join(words[i:i + 4]) for i in range(0, len(words), 4)]
+
+
+def sub_bytes(state):
+    return state.translate(BOX)
+
+
+def inv_sub_bytes(state):
+    return state.translate(INV_BOX)
+
+
+def shift_rows(state):
+    """Row r moves r places to the left."""
+    return bytes(state[r + 4 * ((c + r) % 4)]
+                 for c in range(4) for r in range(4))
+
+
+def inv_shift_rows(state):
+    """Row r moves r places to the right."""
+    return bytes(state[r + 4 * ((c - r) % 4)]
+                 for c in range(4) for r in range(4))
+
+
+def times_matrix(state, a, b, c, d):
+    """Each column times the matrix with the rows abcd, dabc, cdab, bcda."""
+    a, b, c, d = PRODUCTS[a], PRODUCTS[b], PRODUCTS[c], PRODUCTS[d]
+    result = []
+    for i in range(0, 16, 4):
+        w, x, y, z = state[i:i + 4]
+        result += [a[w] ^ b[x] ^ c[y] ^ d[z],
+                   d[w] ^ a[x] ^ b[y] ^ c[z],
+                   c[w] ^ d[x] ^ a[y] ^ b[z],
+                   b[w] ^ c[x] ^ d[y] ^ a[z]]
+    return bytes(result)
+
+
+def mix_columns(state):
+    return times_matrix(state, 0x02, 0x03, 0x01, 0x01)
+
+
+def inv_mix_columns(state):
+    return times_matrix(state, 0x0e, 0x0b, 0x0d, 0x09)
+
+
+def cipher(key, block):
+    first, *middle, last = round_keys(key)
+    state = xor(block, first)
+    for round_key in middle:
+        state = xor(mix_columns(shift_rows(sub_bytes(state))), round_key)
+    return xor(shift_rows(sub_bytes(state)), last)
+
+
+def inv_cipher(key, block):
+    first, *middle, last = round_keys(key)
+    state = xor(block, last)
+    for round_key in reversed(middle):
+        state = xor(inv_sub_bytes(inv_shift_rows(state)), round_key)
+        state = inv_mix_columns(state)
+    return xor(inv_sub_bytes(inv_shift_rows(state)), first)
+
+
+# Appendices B and C.1 of FIPS 197: key, plaintext, ciphertext.
+EXAMPLES = [tuple(map(bytes.fromhex, example)) for example in (
+    ("2b7e151628aed2a6abf7158809cf4f3c", "3243f6a8885a308d313198a2e0370734",
+     "3925841d02dc09fbdc118597196a0b32"),
+    ("000102030405060708090a0b0c0d0e0f", "00112233445566778899aabbccddeeff",
+     "69c4e0d86a7b0430d8cdb78070b4c55a"),
+)]
+
+
+def check():
+    """The examples P6 to P8 of 01, and those of FIPS 197."""
+    assert multiply(0x57, 0x83) == 0xc1  # P6
+    assert multiply(0x57, 0x02) == 0xae  # P7
+    assert BOX[0x00] == 0x63 and BOX[0x53] == 0xed  # P8
+    for a in range(256):
+        assert INV_BOX[BOX[a]] == BOX[INV_BOX[a]] == a
+
+    # Appendix A.1, its last four words; the key is that of appendix B.
+    words = key_expansion(EXAMPLES[0][0])
+    assert len(words) == 44
+    assert b"".join(words[40:]).hex() == "d014f9a8c9ee2589e13f0cc8b6630ca6"
+
+    for key, plain, enciphered in EXAMPLES:
+        assert cipher(key, plain) == enciphered
+        assert inv_cipher(key, enciphered) == plain
+
+    # Appendices C.2 and C.3: the same plaintext under longer keys.
+    plain = EXAMPLES[1][1]
+    for length, enciphered in ((24, "dda97ca4864cdfe06eaf70a0ec0d7191"),
+                               (32, "8ea2b7ca516745bfeafc49904b496089")):
+        key = bytes(range(length))
+        assert cipher(key, plain).hex() == enciphered
+        assert inv_cipher(key, bytes.fromhex(enciphered)) == plain
