@@ -113,18 +113,31 @@ invMixColumns s = state (λ r c. invMixed (at s r c) (at s ((r + 1) % 4) c) (at 
 -- ---- 5.1 and 5.3: Cipher and InvCipher, over the round keys by their numbers and the number of rounds Nr
 
 module _ (key : ℕ → List ℕ) where
-  -- The state before the last round: the first round key is added, and n rounds follow.
+  -- Round n, and the last one, which has no mixing.
+  abbrev pub round : ℕ → List ℕ → List ℕ
+  round n s = addRoundKey (key n) (mixColumns (shiftRows (subBytes s)))
+
+  abbrev pub lastRound : ℕ → List ℕ → List ℕ
+  lastRound n s = addRoundKey (key n) (shiftRows (subBytes s))
+
+  -- The first round key is added, and n rounds follow.
   unfoldable pub rounds : ℕ → List ℕ → List ℕ
   rounds zero s = addRoundKey (key 0) s
-  rounds (suc n) s = addRoundKey (key (suc n)) (mixColumns (shiftRows (subBytes (rounds n s))))
+  rounds (suc n) s = round (suc n) (rounds n s)
 
   unfoldable pub cipher : ℕ → List ℕ → List ℕ
-  cipher Nr s = addRoundKey (key Nr) (shiftRows (subBytes (rounds (Nr - 1) s)))
+  cipher Nr s = lastRound Nr (rounds (Nr - 1) s)
 
-  -- What follows the last round key: n rounds, their keys backwards, and the last one without its mixing.
+  -- The same of InvCipher, whose rounds go from Nr - 1 down to 0.
+  abbrev pub invRound : ℕ → List ℕ → List ℕ
+  invRound n s = invMixColumns (addRoundKey (key n) (invSubBytes (invShiftRows s)))
+
+  abbrev pub invLastRound : ℕ → List ℕ → List ℕ
+  invLastRound n s = addRoundKey (key n) (invSubBytes (invShiftRows s))
+
   unfoldable pub invRounds : ℕ → List ℕ → List ℕ
-  invRounds zero s = addRoundKey (key 0) (invSubBytes (invShiftRows s))
-  invRounds (suc n) s = invRounds n (invMixColumns (addRoundKey (key (suc n)) (invSubBytes (invShiftRows s))))
+  invRounds zero s = invLastRound 0 s
+  invRounds (suc n) s = invRounds n (invRound (suc n) s)
 
   unfoldable pub invCipher : ℕ → List ℕ → List ℕ
   invCipher Nr s = invRounds (Nr - 1) (addRoundKey (key Nr) s)

@@ -1,14 +1,12 @@
 // AES-128 of FIPS 197.
 ghost use Prim.Native.Nat.{_+_, _<_};
 ghost use mathlib.Core.Path.{_≡_};
-ghost use Rattle.blocks.specs.Aes.{Table, box, word, Constants, rotWord, subWord, keyWord, Nr, keyExpansion, encipher, decipher};
+ghost use Rattle.blocks.specs.Aes.{Table, box, word, Constants, rotWord, subWord, keyWord, Nr, keyExpansion, roundKey, cipher, invCipher, encipher, decipher};
 ghost use Rattle.blocks.specs.Block.{value};
 use crate::block::Block;
-use crate::boxes;
+use crate::inv_sbox;
+use crate::sbox;
 use crate::state;
-
-// What a key of 16 bytes gets.
-const ROUNDS: usize = 10;
 
 const RCON: [u8; 10] = [0x01, 0x02, 0x04, 0x08, 0x10, 0x20, 0x40, 0x80, 0x1b, 0x36];
 
@@ -52,11 +50,38 @@ fn key_word(key: &[u8], table: &[u8; 256], rcon: &[u8; 10], words: &[u32; 44], i
     words[i - 4] ^ (sub_rot_word(table, before) ^ word(rcon[i / 4 - 1], 0, 0, 0))
 }
 
+// Cipher.
+fn cipher(words: &[u32; 44], s: [u8; 16]) -> [u8; 16]
+    ensures { λ x. ⌜ x ≡ cipher (roundKey (now (words .entry))) (Nr 4) s ⌝ }
+{
+    let table = sbox::table();
+    let mut t = state::add_round_key(words, 0, s);
+    for n in 1..state::ROUNDS + 1 {
+        let next = state::round(&table, words, n, t);
+        t = next;
+    }
+    t
+}
+
+// InvCipher.
+fn inv_cipher(words: &[u32; 44], s: [u8; 16]) -> [u8; 16]
+    ensures { λ x. ⌜ x ≡ invCipher (roundKey (now (words .entry))) (Nr 4) s ⌝ }
+{
+    let table = inv_sbox::table();
+    let mut t = state::add_round_key(words, state::ROUNDS, s);
+    for j in 0..state::ROUNDS {
+        let n = state::ROUNDS - 1 - j;
+        let next = state::inv_round(&table, words, n, t);
+        t = next;
+    }
+    t
+}
+
 impl ExpandedKey {
     pub fn new(key: &[u8]) -> ExpandedKey
         ensures { λ r. ⌜ r .words ≡ keyExpansion 4 (now (key .entry)) ⌝ }
     {
-        let table = boxes::sbox();
+        let table = sbox::table();
         let rcon = RCON;
         let mut words = [0u32; 44];
         for i in 0..44usize {
@@ -69,47 +94,14 @@ impl ExpandedKey {
     pub fn encipher(self, block: Block) -> Block
         ensures { λ r. ⌜ value r ≡ encipher (Nr 4) (self .words) (value block) ⌝ }
     {
-        let table = boxes::sbox();
         let words = self.words;
-        let mut s = [0u8; 16];
-        block.write(&mut s, 0);
-        let first = state::add_round_key(&words, 0, s);
-        s = first;
-        for n in 1..ROUNDS + 1 {
-            let mut t = state::shift_rows(state::sub_bytes(&table, s));
-            if n < ROUNDS {
-                let m = state::mix_columns(t);
-                t = m;
-            }
-            let a = state::add_round_key(&words, n, t);
-            s = a;
-        }
-        Block::read(&s, 0)
+        Block::from_bytes(cipher(&words, block.to_bytes()))
     }
 
     pub fn decipher(self, block: Block) -> Block
         ensures { λ r. ⌜ value r ≡ decipher (Nr 4) (self .words) (value block) ⌝ }
     {
-        let table = boxes::inv_sbox();
         let words = self.words;
-        let mut s = [0u8; 16];
-        block.write(&mut s, 0);
-        let last = state::add_round_key(&words, ROUNDS, s);
-        s = last;
-        let mut n = ROUNDS;
-        while n > 0 {
-            n -= 1;
-            let a = state::add_round_key(
-                &words,
-                n,
-                state::sub_bytes(&table, state::inv_shift_rows(s)),
-            );
-            s = a;
-            if n > 0 {
-                let m = state::inv_mix_columns(s);
-                s = m;
-            }
-        }
-        Block::read(&s, 0)
+        Block::from_bytes(inv_cipher(&words, block.to_bytes()))
     }
 }

@@ -3,7 +3,7 @@ ghost use Prim.Native.Nat.{_+_, _/_, _^_, _<_};
 ghost use mathlib.Core.Path.{_≡_};
 ghost use lib.ListN.{drop};
 ghost use Rattle.blocks.specs.Xor.{_⊕_};
-ghost use Rattle.blocks.specs.Bytes.{block, bytes, overwrite};
+ghost use Rattle.blocks.specs.Bytes.{number, block, bytes, overwrite};
 ghost use Rattle.blocks.specs.Block.{value};
 
 pub struct Block {
@@ -75,6 +75,22 @@ impl Block {
         }
         put_word(out, at, self.hi);
         put_word(out, at + 8, self.lo);
+    }
+
+    // Its 16 bytes.
+    pub fn to_bytes(self) -> [u8; 16]
+        ensures { λ r. ⌜ r ≡ bytes 16 (value self) ⌝ }
+    {
+        let mut out = [0u8; 16];
+        self.write(&mut out, 0);
+        out
+    }
+
+    // The block of 16 bytes.
+    pub fn from_bytes(s: [u8; 16]) -> Block
+        ensures { λ r. ⌜ value r ≡ number s ⌝ }
+    {
+        Block::read(&s, 0)
     }
 
     // The sum of two blocks.

@@ -1,6 +1,7 @@
 // Byte strings as blocks, the field of 2^128 elements, and AES.
 pub mod aes;
 pub mod block;
-mod boxes;
 pub mod field;
+mod inv_sbox;
+mod sbox;
 mod state;

@@ -2,7 +2,10 @@
 ghost use Prim.Native.Nat.{_≤_, _<_};
 ghost use mathlib.Core.Path.{_≡_};
 ghost use lib.ListN.{getD};
-ghost use Rattle.blocks.specs.Aes.{Substituted, shiftRows, mixed, mixColumns, addRoundKey, invShiftRows, invMixColumns, byteOf, Nr, roundKey};
+ghost use Rattle.blocks.specs.Aes.{box, invBox, Table, Substituted, shiftRows, mixed, mixColumns, addRoundKey, invShiftRows, invMixColumns, round, lastRound, invRound, invLastRound, byteOf, Nr, roundKey};
+
+// The number of rounds that a key of 16 bytes gets.
+pub(crate) const ROUNDS: usize = 10;
 
 // The entry at a byte.
 pub(crate) fn look(table: &[u8; 256], b: u8) -> u8
@@ -87,6 +90,30 @@ pub(crate) fn add_round_key(words: &[u32; 44], n: usize, s: [u8; 16]) -> [u8; 16
     let mut t = [0u8; 16];
     for i in 0..16usize {
         t[i] = s[i] ^ byte(words[4 * n + i / 4], i % 4);
+    }
+    t
+}
+
+// Round n; the last one has no mixing.
+pub(crate) fn round(table: &[u8; 256], words: &[u32; 44], n: usize, s: [u8; 16]) -> [u8; 16]
+    requires { ⌜ Table box (now table) × (n ≤ Nr 4) ⌝ }
+    ensures { λ x. ⌜ (n < Nr 4 → x ≡ round (roundKey (now (words .entry))) n s) × (n ≡ Nr 4 → x ≡ lastRound (roundKey (now (words .entry))) n s) ⌝ }
+{
+    let t = shift_rows(sub_bytes(table, s));
+    if n < ROUNDS {
+        return add_round_key(words, n, mix_columns(t));
+    }
+    add_round_key(words, n, t)
+}
+
+// Round n of the inverse cipher; the last one, 0, has no mixing.
+pub(crate) fn inv_round(table: &[u8; 256], words: &[u32; 44], n: usize, s: [u8; 16]) -> [u8; 16]
+    requires { ⌜ Table invBox (now table) × (n ≤ Nr 4) ⌝ }
+    ensures { λ x. ⌜ (0 < n → x ≡ invRound (roundKey (now (words .entry))) n s) × (n ≡ 0 → x ≡ invLastRound (roundKey (now (words .entry))) n s) ⌝ }
+{
+    let t = add_round_key(words, n, sub_bytes(table, inv_shift_rows(s)));
+    if n > 0 {
+        return inv_mix_columns(t);
     }
     t
 }

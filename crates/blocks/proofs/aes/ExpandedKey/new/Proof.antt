@@ -20,15 +20,15 @@ Inv-loop key table rcon words₀ i₀ words i = Filled 44 i (λ j. getD (keyExpa
 abbrev μ-loop : tie.MeasureT-loop
 μ-loop key table rcon words₀ i₀ words i = 44 - i
 
-sbox-requires : tie.Need-sbox-requires Inv-loop μ-loop
-sbox-requires c κs = search needs
+table-requires : tie.Need-table-requires Inv-loop μ-loop
+table-requires c κs = search needs
 
 loop-holds : tie.Need-loop-holds Inv-loop μ-loop
 loop-holds c = none-filled 44 (λ j. getD (keyExpansion 4 (now (c .before .before .args .key))) j 0) refl
 
 key-word-requires : tie.Need-key-word-requires Inv-loop μ-loop
 unfolding _⊕_ times01 timesX productN product doubling
-key-word-requires c κs = (c .before .before .before .before .before .sbox .ensures, constants refl tt, omega arith)
+key-word-requires c κs = (c .before .before .before .before .before .table .ensures, constants refl tt, omega arith)
 
 mul-words : tie.Need-mul-words Inv-loop μ-loop
 mul-words c = search needs
@@ -62,7 +62,7 @@ new-spec =
     (tie.spec
     Inv-loop
     μ-loop
-    sbox-requires
+    table-requires
     loop-holds
     key-word-requires
     mul-words

@@ -6,12 +6,12 @@ use Rattle.blocks.specs.Field.{times01, timesX, productN, product}
 use Rattle.blocks.specs.Aes.{bit, ofBits, invAffine}
 use Rattle.blocks.proofs.Inverse.{inverts}
 use Rattle.blocks.proofs.Substitution.{boxed, box-table}
-use Rattle.blocks.proofs.boxes.sbox.Statement.{statement}
-use Rattle.blocks.proofs.boxes.sbox.Tie as tie
+use Rattle.blocks.proofs.sbox.table.Statement.{statement}
+use Rattle.blocks.proofs.sbox.table.Tie as tie
 
 returns : tie.Need-returns
 unfolding _⊕_ times01 timesX productN product bit ofBits invAffine inverts boxed
 returns c = box-table refl tt
 
-pub sbox-spec : {M : Type 1} → statement M
-sbox-spec = tie.close (tie.spec returns)
+pub table-spec : {M : Type 1} → statement M
+table-spec = tie.close (tie.spec returns)
