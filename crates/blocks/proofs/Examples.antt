@@ -4,6 +4,7 @@ use mathlib.Core.Path.{_≡_, refl}
 use Prim.Native.Nat.{ℕ, _*_, _^_, _<_}
 use Rattle.blocks.specs.Xor.{_⊕_}
 use Rattle.blocks.specs.Field.{times01, timesX, productN, product, xTimes, _•_}
+use Rattle.blocks.specs.Aes.{squares, inverse, bit, ofBits, affine, box}
 use Rattle.blocks.proofs.Ring.{ring-of-blocks}
 
 -- P1: x times 1 is 2. P2: x times the block 80 then fifteen 00 is 87. P3: that block times 2 is 87.
@@ -34,3 +35,8 @@ p6 = refl
 pub p7 : product 8 0x1b 0x57 2 ≡ 0xae
 unfolding product productN timesX times01 _⊕_
 p7 = refl
+
+-- P8: the box sends 00 to 63 and 53 to ed.
+pub p8 : (box 0x00 ≡ 0x63) × (box 0x53 ≡ 0xed)
+unfolding _⊕_ times01 timesX productN product squares inverse bit ofBits affine box
+p8 = (refl, refl)

@@ -1,14 +1,14 @@
--- Lists by their entries: an array that a loop fills from the front, and the list that it has become.
+-- An array that a loop fills from the front.
 -- Assumes nothing.
-use Prim.Native.Nat.{ℕ, zero, suc, _+_, _≤_, _<_, zero-le}
-use mathlib.Core.Path.{_≡_, refl, sym, ap, _∙_}
-use mathlib.Core.List.{List, [], _∷_}
+use Prim.Native.Nat.{ℕ, _+_, _≤_, _<_, zero-le}
+use mathlib.Core.Path.{_≡_, sym, _∙_}
+use mathlib.Core.List.{List}
 use mathlib.Core.Logic.{⊎-elim}
 use native.Mathlib.Nat.{le-of-suc-le-suc, not-suc-le-zero, eq-or-lt-of-le}
 use native.Mathlib.Omega.{arith}
 use lib.ListN.{length, getD, set, length-set}
-use Rattle.blocks.specs.Bytes.{Below}
 use lib.Seq.{getD-set-same, getD-set-other, ext-getD}
+use Rattle.blocks.proofs.Table.{table, is-table}
 
 -- The first i of n entries are g's.
 pub record Filled (n i : ℕ) (g : ℕ → ℕ) (s : List ℕ) : Type 0 where
@@ -43,38 +43,11 @@ four-filled {n} {i} a b c d f h ea eb ec ed =
 pub refilled : {n i : ℕ} {g h : ℕ → ℕ} {s : List ℕ} → ((j : ℕ) → g j ≡ h j) → Filled n i g s → Filled n i h s
 refilled e f = record { within = f .within; same-length = f .same-length; front = λ j l. f .front j l ∙ e j }
 
--- The list g 0, .., g (n - 1).
-unfoldable pub listed : ℕ → (ℕ → ℕ) → List ℕ
-listed zero g = []
-listed (suc n) g = g 0 ∷ listed n (λ i. g (suc i))
-
-length-listed : (n : ℕ) (g : ℕ → ℕ) → length (listed n g) ≡ n
-unfolding listed
-length-listed zero g = refl
-length-listed (suc n) g = ap suc (length-listed n (λ i. g (suc i)))
-
-getD-listed : (n : ℕ) (g : ℕ → ℕ) (j : ℕ) → j < n → getD (listed n g) j 0 ≡ g j
-unfolding listed
-getD-listed zero g j h = absurd (not-suc-le-zero h)
-getD-listed (suc n) g zero h = refl
-getD-listed (suc n) g (suc j) h = getD-listed n (λ i. g (suc i)) j (le-of-suc-le-suc h)
-
-pub listed-below : {m : ℕ} (n : ℕ) (g : ℕ → ℕ) → ((i : ℕ) → g i < m) → Below m (listed n g)
-unfolding listed
-listed-below zero g h i = let l = h 0 in omega arith
-listed-below (suc n) g h zero = h 0
-listed-below (suc n) g h (suc i) = listed-below n (λ j. g (suc j)) (λ j. h (suc j)) i
-
-pub listed-entries : (s : List ℕ) → listed (length s) (λ i. getD s i 0) ≡ s
-unfolding listed
-listed-entries [] = refl
-listed-entries (a ∷ s) = rw (listed-entries s)
-
--- Filled to its end, the array is any list with g's entries, and so it is the list of them.
+-- Filled to its end, the array is any list with g's entries, and so it is their table.
 pub all-filled-with : {n i : ℕ} {g : ℕ → ℕ} {s : List ℕ} (l : List ℕ) → length l ≡ n → ((j : ℕ) → j < n → getD l j 0 ≡ g j) → Filled n i g s → n ≤ i → s ≡ l
 all-filled-with {n} {i} {g} {s} l e eq f h =
     ext-getD 0 s l (f .same-length ∙ sym e)
     (λ j k. f .front j (omega (arith, f .same-length)) ∙ sym (eq j (omega (arith, f .same-length))))
 
-pub all-filled : {n i : ℕ} {g : ℕ → ℕ} {s : List ℕ} → Filled n i g s → n ≤ i → s ≡ listed n g
-all-filled {n} {i} {g} = all-filled-with (listed n g) (length-listed n g) (getD-listed n g)
+pub all-filled : {n i : ℕ} {g : ℕ → ℕ} {s : List ℕ} → Filled n i g s → n ≤ i → s ≡ table g n 0
+all-filled {n} {i} {g} {s} f h = is-table g n s (f .same-length) (λ j l. f .front j (omega arith))

@@ -1,29 +1,29 @@
 -- The steps of AES, its ciphers and AES under each key are permutations, given that the box is one.
 -- Assumes nothing.
 use Prim.Native.Nat.{ℕ, zero, suc, _+_, _-_, _*_, _/_, _%_, _<_}
-use mathlib.Core.Path.{_≡_, refl, _∙_}
+use mathlib.Core.Path.{_≡_, refl, sym, _∙_}
 use mathlib.Core.List.{List, [], _∷_}
 use native.Mathlib.Omega.{arith}
-use lib.ListN.{length, getD}
+use lib.ListN.{getD}
 use Rattle.blocks.specs.Xor.{_⊕_}
 use Rattle.blocks.specs.Permutation.{Permutation, Block, BlockPermutation}
 use Rattle.blocks.specs.Aes.{Byte, State, at, state, box, invBox, subBytes, invSubBytes, shiftRows, invShiftRows, mixed, invMixed, mixColumns, invMixColumns, addRoundKey, rounds, invRounds, cipher, invCipher, byteOf, roundKey, encipher, decipher, Nr, keyExpansion, aes}
 use Rattle.blocks.proofs.Xor.{xor-below, xor-cancel-right}
 use Rattle.blocks.proofs.Bytes.{bytes-below}
-use Rattle.blocks.proofs.Filled.{listed, listed-below, listed-entries}
+use Rattle.blocks.proofs.Table.{table-below, is-table}
 use Rattle.blocks.proofs.Permutations.{then, backwards, on-blocks}
 use Rattle.blocks.proofs.Columns.{mixed-below, inv-mixed-below, mixed-undone, inv-mixed-undone, mixed-thrice}
 
 -- ---- states by their entries
 
--- A state is a list of 16 entries, of which entry i stands in row i % 4, column i / 4.
+-- A state is a table of 16 entries, of which entry i stands in row i % 4, column i / 4.
 pub state-is : (f : ℕ → ℕ → ℕ) → ((r c : ℕ) → Byte (f r c)) → State (state f)
-unfolding state listed
-state-is f h = (refl, listed-below 16 (λ i. f (i % 4) (i / 4)) (λ i. h (i % 4) (i / 4)))
+unfolding state
+state-is f h = (refl, table-below (λ i. f (i % 4) (i / 4)) 16 0 (λ i. h (i % 4) (i / 4)))
 
 pub state-at : {s : List ℕ} → State s → state (at s) ≡ s
-unfolding state at listed
-state-at {s} h = rw (h .0) at (listed-entries s)
+unfolding state at
+state-at {s} h = sym (is-table (λ i. getD s i 0) 16 s (h .0) (λ j l. refl))
 
 each : {f g : ℕ → ℕ → ℕ} → ((r c : ℕ) → f r c ≡ g r c) → state f ≡ state g
 each e = λ i. state (λ r c. e r c i)

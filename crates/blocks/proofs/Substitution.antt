@@ -1,110 +1,80 @@
--- The box of FIPS 197 and its inverse undo each other, and how a table is tested to be theirs.
--- The affine map and its inverse are additive up to a constant, so that each undoes the other if it does at the powers of two.
+-- AES's box and its inverse are permutations of the bytes that undo each other, and the tables of both.
 -- Assumes nothing.
-use Prim.Native.Nat.{ℕ, zero, suc, _+_, _*_, _/_, _%_, _^_, _<_}
 use mathlib.Core.Path.{_≡_, refl, sym, ap, ap₂, _∙_}
-use mathlib.Core.Bool.{Bool, _&&_}
 use mathlib.Core.List.{List}
-use native.Mathlib.Nat.{mod-lt, zero-lt-suc, pow-succ'}
+use Prim.Native.Nat.{ℕ, zero, suc, _+_, _*_, _/_, _%_, _^_, _<_}
+use native.Mathlib.Nat.{mod-lt, zero-lt-suc, zero-div, pow-succ', div-add-mod'}
 use native.Mathlib.Omega.{arith}
 use lib.Arith.{digits-lt}
-use lib.Dec.{T, ltb, ltb→lt}
-use lib.ListN.{length, getD}
 use lib.Pow.{pow-pos}
+use lib.ListN.{getD}
 use Rattle.blocks.specs.Xor.{_⊕_}
 use Rattle.blocks.specs.Permutation.{Permutation}
-use Rattle.blocks.specs.Aes.{Byte, inverse, bit, ofBits, affine, invAffine, box, invBox, Table}
-use Rattle.blocks.proofs.Xor.{xor-laws, xor-below, xor-shr, xor-mod, xor-parts, xor-zero}
-use Rattle.blocks.proofs.Ring.{Additive, basis}
-use Rattle.blocks.proofs.Inverse.{inverse-below, inverse-inverse, inverts, inverted}
-use Rattle.blocks.proofs.Table.{both, every, at, eight}
-
--- ---- digits
-
-bit-add : (b c i : ℕ) → bit (b ⊕ c) i ≡ bit b i ⊕ bit c i
-unfolding bit
-bit-add b c i = rw (xor-shr (i % 8) b c, xor-mod 1 (b / 2 ^ (i % 8)) (c / 2 ^ (i % 8)))
-
-bit-below : (b i : ℕ) → bit b i < 2 ^ 1
-unfolding bit
-bit-below b i = mod-lt (b / 2 ^ (i % 8)) (zero-lt-suc 1)
-
-abbrev Digits : (ℕ → ℕ) → Type 0
-Digits d = (i : ℕ) → d i < 2 ^ 1
-
-ofBits-below : (n : ℕ) (d : ℕ → ℕ) → Digits d → ofBits n d < 2 ^ n
-unfolding ofBits
-ofBits-below zero d h = pow-pos 0
-ofBits-below (suc n) d h = rw pow-succ' (digits-lt (h n) (ofBits-below n d h))
-
-ofBits-add : (n : ℕ) (d e : ℕ → ℕ) → Digits d → Digits e → ofBits n (λ i. d i ⊕ e i) ≡ ofBits n d ⊕ ofBits n e
-unfolding ofBits
-ofBits-add zero d e hd he = sym (xor-zero 0)
-ofBits-add (suc n) d e hd he =
-    rw (ofBits-add n d e hd he) (sym (xor-parts n (d n) (e n) (ofBits n d) (ofBits n e) (ofBits-below n d hd) (ofBits-below n e he)))
-
--- ---- the affine map and its inverse
-
-abbrev Affine : ℕ → (ℕ → ℕ) → Type 0
-Affine k f = (b c : ℕ) → f (b ⊕ c) ≡ f b ⊕ f c ⊕ k
-
--- One of digits, each a sum of a byte's digits and one of k.
-of-digits : (k : ℕ) (D : ℕ → ℕ → ℕ) → ((b : ℕ) → Digits (D b)) → ((b c i : ℕ) → D (b ⊕ c) i ≡ D b i ⊕ D c i ⊕ bit k i)
-    → Affine (ofBits 8 (bit k)) (λ b. ofBits 8 (D b))
-of-digits k D h e b c =
-    (λ j. ofBits 8 (λ i. e b c i j)) ∙ ofBits-add 8 (λ i. D b i ⊕ D c i) (bit k) (λ i. xor-below 1 (h b i) (h c i)) (bit-below k)
-    ∙ ap (λ (x : ℕ). x ⊕ ofBits 8 (bit k)) (ofBits-add 8 (D b) (D c) (h b) (h c))
+use Rattle.blocks.specs.Aes.{Byte, bit, ofBits, affine, invAffine, inverse, box, invBox, Table}
+use Rattle.blocks.proofs.Xor.{xor-laws, xor-assoc, xor-shr, xor-mod, xor-parts, xor-below, xor-disjoint}
+use Rattle.blocks.proofs.Ring.{basis}
+use Rattle.blocks.proofs.Table.{table, entry, same}
+use Rattle.blocks.proofs.Inverse.{looked-up, inverse-is, inverse-below, inverse-inverse}
 
 infixl 65 _⊞_
-_⊞_ : {x y : ℕ} → x < 2 ^ 1 → y < 2 ^ 1 → x ⊕ y < 2 ^ 1
-p ⊞ q = xor-below 1 p q
+-- ---- maps to k digits that are additive up to what they give at 0
 
--- The digits of the two maps.
-abbrev there : ℕ → ℕ → ℕ
-there b i = bit b i ⊕ bit b (i + 4) ⊕ bit b (i + 5) ⊕ bit b (i + 6) ⊕ bit b (i + 7) ⊕ bit 0x63 i
+record Map (k : ℕ) (f : ℕ → ℕ) : Type 0 where
+  below : (b : ℕ) → f b < 2 ^ k
+  add : (a b : ℕ) → f (a ⊕ b) ≡ f a ⊕ f b ⊕ f 0
 
-abbrev back : ℕ → ℕ → ℕ
-back b i = bit b (i + 2) ⊕ bit b (i + 5) ⊕ bit b (i + 7) ⊕ bit 0x05 i
+digit : (i : ℕ) → Map 1 (λ b. bit b i)
+unfolding bit
+digit i = record {
+  below = λ b. mod-lt (b / 2 ^ (i % 8)) (zero-lt-suc 1);
+  add = λ a b. rw (zero-div (2 ^ (i % 8)), xor-shr (i % 8) a b, xor-mod 1 (a / 2 ^ (i % 8)) (b / 2 ^ (i % 8))) (simp xor-laws);
+}
 
-there-digits : (b : ℕ) → Digits (there b)
-there-digits b i =
-    bit-below b i ⊞ bit-below b (i + 4) ⊞ bit-below b (i + 5) ⊞ bit-below b (i + 6) ⊞ bit-below b (i + 7) ⊞ bit-below 0x63 i
+constant : (c i : ℕ) → Map 1 (λ b. bit c i)
+constant c i = record { below = λ b. digit i .below c; add = λ a b. simp xor-laws }
 
-back-digits : (b : ℕ) → Digits (back b)
-back-digits b i = bit-below b (i + 2) ⊞ bit-below b (i + 5) ⊞ bit-below b (i + 7) ⊞ bit-below 0x05 i
+_⊞_ : {k : ℕ} {f g : ℕ → ℕ} → Map k f → Map k g → Map k (λ b. f b ⊕ g b)
+_⊞_ {k} F G = record { below = λ b. xor-below k (F .below b) (G .below b); add = λ a b. rw (F .add a b, G .add a b) (simp xor-laws) }
 
-affine-below : (b : ℕ) → Byte (affine b)
+whole : (d : ℕ → ℕ → ℕ) → ((i : ℕ) → Map 1 (λ b. d b i)) → (n : ℕ) → Map n (λ b. ofBits n (d b))
+unfolding ofBits
+whole d D zero = record { below = λ b. pow-pos 0; add = λ a b. simp xor-laws }
+whole d D (suc n) =
+    let rest : Map n (λ b. ofBits n (d b)) = whole d D n in
+    record {
+      below = λ b. rw pow-succ' (digits-lt (D n .below b) (rest .below b));
+      add = λ a b. rw (D n .add a b, rest .add a b) (simp (xor-parts n, rest .below, xor-below n));
+    }
+
+affine-map : Map 8 affine
 unfolding affine
-affine-below b = ofBits-below 8 (there b) (there-digits b)
+affine-map = whole _ (λ i. digit i ⊞ digit (i + 4) ⊞ digit (i + 5) ⊞ digit (i + 6) ⊞ digit (i + 7) ⊞ constant 0x63 i) 8
 
-invAffine-below : (b : ℕ) → Byte (invAffine b)
+invAffine-map : Map 8 invAffine
 unfolding invAffine
-invAffine-below b = ofBits-below 8 (back b) (back-digits b)
+invAffine-map = whole _ (λ i. digit (i + 2) ⊞ digit (i + 5) ⊞ digit (i + 7) ⊞ constant 0x05 i) 8
 
-affine-add : Affine 0x63 affine
-unfolding affine bit ofBits
-affine-add = of-digits 0x63 there there-digits (λ b c i. simp (bit-add, xor-laws))
-
-invAffine-add : Affine 0x05 invAffine
-unfolding invAffine bit ofBits
-invAffine-add = of-digits 0x05 back back-digits (λ b c i. simp (bit-add, xor-laws))
-
-composed : (k l : ℕ) (f g : ℕ → ℕ) → Affine k f → Affine l g → g k ≡ 0 → Additive (λ b. g (f b))
-composed k l f g hf hg z b c = rw (hf b c, hg (f b ⊕ f c) k, hg (f b) (f c), z) (simp xor-laws)
+-- Two of them undo each other if they do at 0 and at the powers of two.
+undo : {f g : ℕ → ℕ} → Map 8 f → Map 8 g → f (g 0) ≡ 0 → table (λ i. f (g (2 ^ i))) 8 0 ≡ table (λ i. 2 ^ i) 8 0
+    → (b : ℕ) → Byte b → f (g b) ≡ b
+undo {f} {g} F G z e =
+    basis 8 (λ b. f (g b)) (λ b. b)
+    (λ a b. rw (G .add a b, F .add (g a ⊕ g b) (g 0), F .add (g a) (g b), z) (simp xor-laws)) (λ a b. refl)
+    (same (λ i. f (g (2 ^ i))) (λ i. 2 ^ i) 8 e)
 
 affine-invAffine : (b : ℕ) → Byte b → affine (invAffine b) ≡ b
-unfolding _⊕_ bit ofBits affine invAffine
-affine-invAffine =
-    basis 8 (λ b. affine (invAffine b)) (λ b. b) (composed 0x05 0x63 invAffine affine invAffine-add affine-add refl) (λ b c. refl)
-    (eight (λ i. affine (invAffine (2 ^ i)) ≡ 2 ^ i) refl refl refl refl refl refl refl refl)
+unfolding affine invAffine ofBits bit _⊕_
+affine-invAffine = undo affine-map invAffine-map refl refl
 
 invAffine-affine : (b : ℕ) → Byte b → invAffine (affine b) ≡ b
-unfolding _⊕_ bit ofBits affine invAffine
-invAffine-affine =
-    basis 8 (λ b. invAffine (affine b)) (λ b. b) (composed 0x63 0x05 affine invAffine affine-add invAffine-add refl) (λ b c. refl)
-    (eight (λ i. invAffine (affine (2 ^ i)) ≡ 2 ^ i) refl refl refl refl refl refl refl refl)
+unfolding affine invAffine ofBits bit _⊕_
+invAffine-affine = undo invAffine-map affine-map refl refl
 
--- ---- the box
+affine-below : (b : ℕ) → Byte (affine b)
+affine-below = affine-map .below
+
+invAffine-below : (b : ℕ) → Byte (invAffine b)
+invAffine-below = invAffine-map .below
 
 pub box-permutation : Permutation Byte box invBox
 unfolding box invBox
@@ -115,22 +85,40 @@ box-permutation = record {
   undoes = λ b h. rw (inverse-inverse (invAffine b) (invAffine-below b)) (affine-invAffine b h);
 }
 
--- Tables: each entry is a byte that the affine map's inverse takes to the inverse of its place; each is the inverse of what it takes its place to.
-unfoldable pub boxed : ℕ → ℕ → Bool
-boxed b x = ltb x 256 && inverts b (invAffine x)
+-- ---- tables: such a map at a byte is a sum of what it gives at the byte's two hexadecimal digits, which is computed once for each digit
 
-unfoldable pub unboxed : ℕ → ℕ → Bool
-unboxed b x = inverts (invAffine b) x
+abbrev high : (ℕ → ℕ) → List ℕ
+high f = table (λ d. f (d * 16)) 16 0
 
-pub box-table : {t : List ℕ} → length t ≡ 256 → T (every boxed 0 t) → Table box t
-unfolding boxed box
-box-table {t} e p = record {
-  entry = λ b h.
-      let x = getD t b 0 in
-      let q = both (ltb x 256) (inverts b (invAffine x)) (at boxed t p b (rw e h)) in
-      sym (rw (inverted b (invAffine x) h (q .1) .0) (affine-invAffine x (ltb→lt x 256 (q .0))));
+abbrev low : (ℕ → ℕ) → List ℕ
+low f = table (λ d. f d ⊕ f 0) 16 0
+
+abbrev joined : List ℕ → List ℕ → ℕ → ℕ
+joined his los b = getD his (b / 16) 0 ⊕ getD los (b % 16) 0
+
+-- g (f (e i)) at each byte i
+unfoldable pub values : (g f e : ℕ → ℕ) → List ℕ
+values g f e = let his : List ℕ = high f in let los : List ℕ = low f in table (λ i. g (joined his los (e i))) 256 0
+
+value : (g : ℕ → ℕ) {f : ℕ → ℕ} (e : ℕ → ℕ) → Map 8 f → {t : List ℕ} → t ≡ values g f e
+    → (i : ℕ) → Byte i → Byte (e i) → getD t i 0 ≡ g (f (e i))
+unfolding values
+value g {f} e F s i l k =
+    let b : ℕ = e i in
+    let parts : b / 16 * 16 ⊕ b % 16 ≡ b = xor-disjoint 4 (b / 16) (b % 16) (mod-lt b (zero-lt-suc 15)) ∙ div-add-mod' b 16 in
+    entry (λ i. g (joined (high f) (low f) (e i))) 256 s i l
+    ∙ ap g
+    (ap₂ _⊕_ (entry (λ d. f (d * 16)) 16 refl (b / 16) (omega arith)) (entry (λ d. f d ⊕ f 0) 16 refl (b % 16) (omega arith))
+    ∙ sym (xor-assoc (f (b / 16 * 16)) (f (b % 16)) (f 0)) ∙ sym (F .add (b / 16 * 16) (b % 16)) ∙ ap f parts)
+
+pub box-table : {t : List ℕ} → t ≡ values (λ b. b) affine looked-up → Table box t
+unfolding box
+box-table s = record {
+  entry = λ b h. value (λ c. c) looked-up affine-map s b h (rw (inverse-is b h) at (inverse-below b h)) ∙ ap affine (sym (inverse-is b h));
 }
 
-pub inv-box-table : {t : List ℕ} → length t ≡ 256 → T (every unboxed 0 t) → Table invBox t
-unfolding unboxed invBox
-inv-box-table {t} e p = record { entry = λ b h. sym (inverted (invAffine b) (getD t b 0) (invAffine-below b) (at unboxed t p b (rw e h)) .0) }
+pub inv-box-table : {t : List ℕ} → t ≡ values looked-up invAffine (λ b. b) → Table invBox t
+unfolding invBox
+inv-box-table s = record {
+  entry = λ b h. value looked-up (λ c. c) invAffine-map s b h h ∙ sym (inverse-is (invAffine b) (invAffine-below b));
+}

@@ -1,45 +1,40 @@
--- A rule of a table holds at all of its entries by one test that is computed, one entry after the other.
+-- A function's values, computed in a row and compared with a list, give what the function is at each place.
 -- Assumes nothing.
-use Prim.Native.Nat.{ℕ, zero, suc, _+_, _<_}
-use mathlib.Core.Path.{_≡_}
-use mathlib.Core.Bool.{Bool, true, false, _&&_, _||_}
+use mathlib.Core.Path.{_≡_, refl, sym, ap, _∙_}
 use mathlib.Core.List.{List, [], _∷_}
-use native.Mathlib.Nat.{add-zero, zero-add, le-of-suc-le-suc, not-suc-le-zero}
+use Prim.Native.Nat.{ℕ, zero, suc, _+_, _<_}
+use native.Mathlib.Nat.{add-zero, zero-add, add-suc, suc-add, le-of-suc-le-suc, not-suc-le-zero}
 use native.Mathlib.Omega.{arith}
-use lib.Dec.{T}
 use lib.ListN.{length, getD}
+use lib.Seq.{ext-getD}
+use Rattle.blocks.specs.Bytes.{Below}
 
-pub both : (a b : Bool) → T (a && b) → T a × T b
-both true b t = (tt, t)
-both false b t = absurd t
+-- The values of f at the n places from i on.
+abbrev pub table : (ℕ → ℕ) → ℕ → ℕ → List ℕ
+table f zero i = []
+table f (suc n) i = f i ∷ table f n (suc i)
 
-pub either : {X : Type 0} (a b : Bool) → T (a || b) → (T a → X) → (T b → X) → X
-either true b t f g = f t
-either false b t f g = g t
+from : (f : ℕ → ℕ) (n i k : ℕ) → k < n → getD (table f n i) k 0 ≡ f (i + k)
+from f zero i k h = absurd (not-suc-le-zero h)
+from f (suc n) i zero h = rw add-zero
+from f (suc n) i (suc k) h = rw (add-suc, ← suc-add i k) (from f n (suc i) k (le-of-suc-le-suc h))
 
--- The test passes at each entry and its place, the places counted from i.
-abbrev pub every : (ℕ → ℕ → Bool) → ℕ → List ℕ → Bool
-every f i [] = true
-every f i (x ∷ xs) = f i x && every f (suc i) xs
+pub entry : (f : ℕ → ℕ) (n : ℕ) {t : List ℕ} → t ≡ table f n 0 → (k : ℕ) → k < n → getD t k 0 ≡ f k
+entry f n e k h = rw (e, from f n 0 k h, zero-add)
 
-from : (f : ℕ → ℕ → Bool) (xs : List ℕ) (i : ℕ) → T (every f i xs) → (k : ℕ) → k < length xs → T (f (i + k) (getD xs k 0))
-from f [] i t k h = absurd (not-suc-le-zero h)
-from f (x ∷ xs) i t zero h = rw add-zero (both (f i x) (every f (suc i) xs) t .0)
-from f (x ∷ xs) i t (suc k) h =
-    let e : i + suc k ≡ suc i + k = omega arith in
-    rw e (from f xs (suc i) (both (f i x) (every f (suc i) xs) t .1) k (le-of-suc-le-suc h))
+pub same : (f g : ℕ → ℕ) (n : ℕ) → table f n 0 ≡ table g n 0 → (k : ℕ) → k < n → f k ≡ g k
+same f g n e k h = sym (entry f n refl k h) ∙ entry g n e k h
 
-pub at : (f : ℕ → ℕ → Bool) (xs : List ℕ) → T (every f 0 xs) → (k : ℕ) → k < length xs → T (f k (getD xs k 0))
-at f xs t k h = rw zero-add at (from f xs 0 t k h)
+length-table : (f : ℕ → ℕ) (n i : ℕ) → length (table f n i) ≡ n
+length-table f zero i = refl
+length-table f (suc n) i = ap suc (length-table f n (suc i))
 
--- The eight cases of a digit's place.
-pub eight : (P : ℕ → Type 0) → P 0 → P 1 → P 2 → P 3 → P 4 → P 5 → P 6 → P 7 → (i : ℕ) → i < 8 → P i
-eight P a b c d e f g h zero l = a
-eight P a b c d e f g h (suc zero) l = b
-eight P a b c d e f g h (suc (suc zero)) l = c
-eight P a b c d e f g h (suc (suc (suc zero))) l = d
-eight P a b c d e f g h (suc (suc (suc (suc zero)))) l = e
-eight P a b c d e f g h (suc (suc (suc (suc (suc zero))))) l = f
-eight P a b c d e f g h (suc (suc (suc (suc (suc (suc zero)))))) l = g
-eight P a b c d e f g h (suc (suc (suc (suc (suc (suc (suc zero))))))) l = h
-eight P a b c d e f g h (suc (suc (suc (suc (suc (suc (suc (suc i)))))))) l = absurd (omega arith)
+pub table-below : {m : ℕ} (f : ℕ → ℕ) (n i : ℕ) → ((j : ℕ) → f j < m) → Below m (table f n i)
+table-below f zero i h j = let l = h 0 in omega arith
+table-below f (suc n) i h zero = h i
+table-below f (suc n) i h (suc j) = table-below f n (suc i) h j
+
+-- A list with f's values is f's table.
+pub is-table : (f : ℕ → ℕ) (n : ℕ) (s : List ℕ) → length s ≡ n → ((j : ℕ) → j < n → getD s j 0 ≡ f j) → s ≡ table f n 0
+is-table f n s e h =
+    ext-getD 0 s (table f n 0) (e ∙ sym (length-table f n 0)) (λ j l. h j (omega arith) ∙ sym (entry f n refl j (omega arith)))

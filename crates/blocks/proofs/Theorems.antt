@@ -6,6 +6,9 @@ use Rattle.blocks.proofs.Bytes.{number-bytes, bytes-number, bytes-xor}
 use Rattle.blocks.proofs.Ring as Ring
 use Rattle.blocks.proofs.Horner as Horner
 use Rattle.blocks.proofs.One as One
+use Rattle.blocks.proofs.Inverse.{inverse-zero, inverse-product}
+use Rattle.blocks.proofs.Substitution.{box-permutation}
+use Rattle.blocks.proofs.Rounds as Rounds
 
 pub theorems : Theorems
 theorems = record {
@@ -24,4 +27,14 @@ theorems = record {
   horner-rule = λ k one _·_ ring. Horner.horner-rule ring;
   count-numbers = One.count-one;
   count-strings = One.count-strings;
+  inverse-of-byte = inverse-product;
+  inverse-of-zero = inverse-zero;
+  box-permutation = box-permutation;
+  sub-bytes = Rounds.sub-bytes box-permutation;
+  shift-rows = Rounds.shift-rows;
+  mix-columns = Rounds.mix-columns;
+  add-round-key = Rounds.add-round-key;
+  cipher-permutation = Rounds.cipher-permutation box-permutation;
+  words-permutation = Rounds.block-permutation box-permutation;
+  aes-permutation = Rounds.aes-permutation box-permutation;
 }

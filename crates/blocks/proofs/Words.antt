@@ -2,14 +2,12 @@
 -- Assumes nothing.
 use Prim.Native.Nat.{ℕ, zero, suc, _+_, _-_, _*_, _/_, _%_, _^_, _≤_, _<_}
 use mathlib.Core.Path.{_≡_, refl, sym, ap, _∙_}
-use mathlib.Core.Bool.{Bool, true, false, _&&_}
 use mathlib.Core.List.{List, [], _∷_, _++_}
 use mathlib.Core.Logic.{_⊎_, inl, inr, ⊎-elim}
 use native.Mathlib.Nat.{add-zero, zero-add, add-assoc, eq-or-lt-of-le, eq-zero-or-pos, le-of-suc-le-suc, not-suc-le-zero}
 use native.Mathlib.Omega.{arith}
 use borrow.Author.Tests.{lt-ltb, le-ltb, eq-eqb, ne-eqb}
 use lib.Arith.{digits-div}
-use lib.Dec.{T, ltb, eqb, eqb→eq}
 use lib.ListN.{length, getD, drop, length-append, List·getD-append}
 use lib.Seq.{getD-at, getD-drop, drop-drop}
 use Rattle.blocks.specs.Xor.{_⊕_}
@@ -17,7 +15,6 @@ use Rattle.blocks.specs.Bytes.{Bytes, number, bytes, block}
 use Rattle.blocks.specs.Field.{power}
 use Rattle.blocks.specs.Aes.{_·_, box, word, byteOf, rotWord, subWord, rcon, Constants, choose, temp, keyWord, keyWords}
 use Rattle.blocks.proofs.Bytes.{bytes-below, bytes-number, number-append, padded, padded-add}
-use Rattle.blocks.proofs.Table.{both}
 use Rattle.blocks.proofs.Place.{number-fits, high-half}
 
 pub byteOf-below : (w i : ℕ) → byteOf w i < 256
@@ -50,22 +47,22 @@ read-word at s h =
     let low : number (padded 4 (drop 4 t)) < 256 ^ 4 = rw drop-drop (number-fits 4 4 (at + 4) s h (omega arith)) in
     rw (high-half at s h, padded-add 4 4 t, number-append, digits-div (number (padded 4 t)) low) (simp (getD-drop, drop-drop, add-zero, add-assoc))
 
--- The test of the round constants: the first is x, and each is twice the one before it.
-unfoldable pub doubling : ℕ → List ℕ → Bool
-doubling x [] = true
-doubling x (y ∷ t) = eqb y x && doubling (0x02 · x) t
+-- x, 2 x, 4 x, .. in the field of bytes, n of them: what the round constants are tested to be.
+unfoldable pub doubles : ℕ → ℕ → List ℕ
+doubles zero x = []
+doubles (suc n) x = x ∷ doubles n (0x02 · x)
 
-doubled : (k : ℕ) (t : List ℕ) → T (doubling (power 1 _·_ 0x02 k) t) → (j : ℕ) → j < length t → getD t j 0 ≡ power 1 _·_ 0x02 (k + j)
-unfolding doubling power
-doubled k [] h j l = absurd (not-suc-le-zero l)
-doubled k (y ∷ t) h zero l = rw add-zero (eqb→eq y (power 1 _·_ 0x02 k) (both (eqb y (power 1 _·_ 0x02 k)) (doubling (power 1 _·_ 0x02 (suc k)) t) h .0))
-doubled k (y ∷ t) h (suc j) l =
-    let n : k + suc j ≡ suc k + j = omega arith in
-    rw n (doubled (suc k) t (both (eqb y (power 1 _·_ 0x02 k)) (doubling (power 1 _·_ 0x02 (suc k)) t) h .1) j (le-of-suc-le-suc l))
+doubled : (n k j : ℕ) → j < n → getD (doubles n (power 1 _·_ 0x02 k)) j 0 ≡ power 1 _·_ 0x02 (k + j)
+unfolding doubles power
+doubled zero k j l = absurd (not-suc-le-zero l)
+doubled (suc n) k zero l = rw add-zero
+doubled (suc n) k (suc j) l =
+    let e : k + suc j ≡ suc k + j = omega arith in
+    rw e (doubled n (suc k) j (le-of-suc-le-suc l))
 
-pub constants : {n : ℕ} {t : List ℕ} → length t ≡ n → T (doubling 1 t) → Constants n t
+pub constants : {n : ℕ} {t : List ℕ} → t ≡ doubles n 1 → Constants n t
 unfolding power
-constants {n} {t} e h = record { constant = λ j l. rw zero-add at (doubled 0 t h j (rw e l)) }
+constants {n} e = record { constant = λ j l. rw e (rw zero-add at (doubled n 0 j l)) }
 
 -- Word i of a key: the key's own, one in the middle of Nk, or the first of Nk.
 module _ (Nk : ℕ) (key : List ℕ) (i : ℕ) (w : List ℕ) where

@@ -8,6 +8,8 @@ use Rattle.blocks.specs.Xor.{_⊕_, xorBytes}
 use Rattle.blocks.specs.Bytes.{Below, Bytes, OfLength, number, bytes}
 use Rattle.blocks.specs.Field.{timesX, product, _•_, power, powerSum, horner, Ring}
 use Rattle.blocks.specs.One.{ExactlyOne, count}
+use Rattle.blocks.specs.Permutation.{Permutation, Block, BlockPermutation}
+use Rattle.blocks.specs.Aes.{Byte, _·_, inverse, box, invBox, State, subBytes, invSubBytes, shiftRows, invShiftRows, mixColumns, invMixColumns, addRoundKey, cipher, invCipher, encipher, decipher, aes}
 
 pub record Theorems : Type 0 where
   -- Exclusive or is a commutative group in which each number is its own inverse, and keeps the numbers of k digits.
@@ -31,3 +33,16 @@ pub record Theorems : Type 0 where
   -- Where exactly one passes a test the count is 1, of numbers below a bound and of strings of n bytes.
   pub count-numbers : (test : ℕ → Bool) (n a : ℕ) → ExactlyOne (λ v. v < n) test a → count test n ≡ 1
   pub count-strings : (test : List ℕ → Bool) (n : ℕ) (s : List ℕ) → ExactlyOne (OfLength n) test s → count (λ v. test (bytes n v)) (256 ^ n) ≡ 1
+  -- The bytes of AES have inverses: with its ring of bytes, they are a field.
+  pub inverse-of-byte : (a : ℕ) → 0 < a → Byte a → a · inverse a ≡ 1
+  pub inverse-of-zero : inverse 0 ≡ 0
+  -- FIPS 197: the box and the steps of a round are permutations, each with its inverse.
+  pub box-permutation : Permutation Byte box invBox
+  pub sub-bytes : Permutation State subBytes invSubBytes
+  pub shift-rows : Permutation State shiftRows invShiftRows
+  pub mix-columns : Permutation State mixColumns invMixColumns
+  pub add-round-key : (k : List ℕ) → State k → Permutation State (addRoundKey k) (addRoundKey k)
+  -- So is the cipher, with any round keys and any number of rounds, and AES under every key.
+  pub cipher-permutation : (key : ℕ → List ℕ) → ((i : ℕ) → State (key i)) → (Nr : ℕ) → Permutation State (cipher key Nr) (invCipher key Nr)
+  pub words-permutation : (Nr : ℕ) (w : List ℕ) → Permutation Block (encipher Nr w) (decipher Nr w)
+  pub aes-permutation : (key : List ℕ) → BlockPermutation (aes key)

@@ -52,7 +52,7 @@ loop-less : tie.Need-loop-less Inv-loop μ-loop
 loop-less c = search needs
 
 loop-again : tie.Need-loop-again Inv-loop μ-loop
-loop-again c = 
+loop-again c =
     let l = c .before .before .before .loop in
     let n : Nr 4 - (l .j + 1) ≡ Nr 4 - 1 - l .j = omega arith in
     let m : Nr 4 - 1 - l .j + 1 ≡ Nr 4 - l .j = omega arith in
@@ -60,7 +60,7 @@ loop-again c =
 
 returns : tie.Need-returns Inv-loop μ-loop
 unfolding left invCipher
-returns c = 
+returns c =
     let k = roundKey (now (c .before .before .before .before .args .words)) in
     let z : Nr 4 - c .before .loop .j ≡ 0 = omega arith in
     (rw z at (c .before .loop .inv .1)) ∙ ap (invRounds k (Nr 4 - 1)) (c .before .before .add-round-key .ensures)

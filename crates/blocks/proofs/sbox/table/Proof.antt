@@ -2,16 +2,15 @@
 -- Assumes nothing.
 use mathlib.Core.Path.{refl}
 use Rattle.blocks.specs.Xor.{_⊕_}
-use Rattle.blocks.specs.Field.{times01, timesX, productN, product}
-use Rattle.blocks.specs.Aes.{bit, ofBits, invAffine}
-use Rattle.blocks.proofs.Inverse.{inverts}
-use Rattle.blocks.proofs.Substitution.{boxed, box-table}
+use Rattle.blocks.specs.Aes.{bit, ofBits, affine}
+use Rattle.blocks.proofs.Inverse.{inverses}
+use Rattle.blocks.proofs.Substitution.{values, box-table}
 use Rattle.blocks.proofs.sbox.table.Statement.{statement}
 use Rattle.blocks.proofs.sbox.table.Tie as tie
 
 returns : tie.Need-returns
-unfolding _⊕_ times01 timesX productN product bit ofBits invAffine inverts boxed
-returns c = box-table refl tt
+unfolding _⊕_ bit ofBits affine inverses values
+returns c = box-table refl
 
 pub table-spec : {M : Type 1} → statement M
 table-spec = tie.close (tie.spec returns)

@@ -7,7 +7,7 @@ use denote.Ref.{now}
 use lib.ListN.{getD}
 use Rattle.blocks.specs.Xor.{_⊕_}
 use Rattle.blocks.specs.Aes.{at, state, byteOf, addRoundKey, roundKey}
-use Rattle.blocks.proofs.Filled.{Filled, none-filled, one-filled, listed, all-filled}
+use Rattle.blocks.proofs.Filled.{Filled, none-filled, one-filled, all-filled}
 use borrow.Author.Needs.{needs}
 use Rattle.blocks.proofs.state.add_round_key.Statement.{statement}
 use Rattle.blocks.proofs.state.add_round_key.Tie as tie
@@ -54,7 +54,7 @@ unfolding _⊕_
 loop-again c = one-filled _ (c .before .before .before .loop .inv) (omega arith) (rw (c .byte .ensures))
 
 returns : tie.Need-returns Inv-loop μ-loop
-unfolding at state addRoundKey roundKey listed
+unfolding at state addRoundKey roundKey
 returns c = all-filled (c .before .loop .inv) (c .loop-test .left)
 
 pub add-round-key-spec : {M : Type 1} → statement M

@@ -5,7 +5,7 @@ use mathlib.Core.Path.{refl}
 use native.Mathlib.Omega.{arith}
 use lib.ListN.{getD}
 use Rattle.blocks.specs.Aes.{at, state, shiftRows}
-use Rattle.blocks.proofs.Filled.{Filled, none-filled, one-filled, listed, all-filled}
+use Rattle.blocks.proofs.Filled.{Filled, none-filled, one-filled, all-filled}
 use borrow.Author.Needs.{needs}
 use Rattle.blocks.proofs.state.shift_rows.Statement.{statement}
 use Rattle.blocks.proofs.state.shift_rows.Tie as tie
@@ -38,7 +38,7 @@ loop-again : tie.Need-loop-again Inv-loop μ-loop
 loop-again c = one-filled _ (c .before .loop .inv) (omega arith) refl
 
 returns : tie.Need-returns Inv-loop μ-loop
-unfolding at state shiftRows listed
+unfolding at state shiftRows
 returns c = all-filled (c .before .loop .inv) (c .loop-test .left)
 
 pub shift-rows-spec : {M : Type 1} → statement M

@@ -7,7 +7,7 @@ use mir.Syntax.{w8}
 use denote.Ref.{now}
 use lib.ListN.{getD}
 use Rattle.blocks.specs.Aes.{at, state}
-use Rattle.blocks.proofs.Filled.{Filled, none-filled, one-filled, refilled, listed, all-filled}
+use Rattle.blocks.proofs.Filled.{Filled, none-filled, one-filled, refilled, all-filled}
 use Rattle.blocks.proofs.Arrays.{elements}
 use borrow.Author.Needs.{needs}
 use Rattle.blocks.proofs.state.sub_bytes.Statement.{statement}
@@ -41,7 +41,7 @@ loop-again : tie.Need-loop-again Inv-loop μ-loop
 loop-again c = one-filled (c .look .result) (c .before .before .loop .inv) (omega arith) (c .look .ensures)
 
 returns : tie.Need-returns Inv-loop μ-loop
-unfolding at state listed
+unfolding at state
 returns c f h =
     let bytes = elements w8 16 (c .before .before .args .t2) _ (c .before .before .good .1 .0) in
     all-filled (refilled (λ j. h .entry (getD (c .before .before .args .t2) j 0) (bytes j)) (c .before .loop .inv)) (c .loop-test .left)

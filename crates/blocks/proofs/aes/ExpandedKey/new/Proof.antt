@@ -9,7 +9,7 @@ use Rattle.blocks.specs.Xor.{_⊕_}
 use Rattle.blocks.specs.Field.{times01, timesX, productN, product}
 use Rattle.blocks.specs.Aes.{keyExpansion}
 use Rattle.blocks.proofs.Filled.{Filled, none-filled, one-filled, all-filled-with}
-use Rattle.blocks.proofs.Words.{doubling, constants, length-keyWords, word-at}
+use Rattle.blocks.proofs.Words.{doubles, constants, length-keyWords, word-at}
 use borrow.Author.Needs.{needs}
 use Rattle.blocks.proofs.aes.ExpandedKey.new.Statement.{statement}
 use Rattle.blocks.proofs.aes.ExpandedKey.new.Tie as tie
@@ -27,8 +27,8 @@ loop-holds : tie.Need-loop-holds Inv-loop μ-loop
 loop-holds c = none-filled 44 (λ j. getD (keyExpansion 4 (now (c .before .before .args .key))) j 0) refl
 
 key-word-requires : tie.Need-key-word-requires Inv-loop μ-loop
-unfolding _⊕_ times01 timesX productN product doubling
-key-word-requires c κs = (c .before .before .before .before .before .table .ensures, constants refl tt, omega arith)
+unfolding _⊕_ times01 timesX productN product doubles
+key-word-requires c κs = (c .before .before .before .before .before .table .ensures, constants refl, omega arith)
 
 mul-words : tie.Need-mul-words Inv-loop μ-loop
 mul-words c = search needs
