@@ -1,8 +1,7 @@
 -- The elements of an array that a function takes by value are numbers of their type: g is what the function is told of it on entry, `c .good`.
 -- Assumes nothing.
-use Prim.Native.Nat.{ℕ, zero, suc, _^_, _<_}
+use Prim.Native.Nat.{ℕ, zero, suc, _^_}
 use mathlib.Core.List.{List, [], _∷_}
-use lib.ListN.{getD}
 use lib.Pow.{pow-pos}
 use mir.Syntax.{Width}
 use mir.Val.{Val, bits}

@@ -1,9 +1,8 @@
 -- The steps of AES, its ciphers and AES under each key are permutations, given that the box is one.
 -- Assumes nothing.
-use Prim.Native.Nat.{ℕ, zero, suc, _+_, _-_, _*_, _/_, _%_, _<_}
+use Prim.Native.Nat.{ℕ, zero, suc, _+_, _-_, _*_, _/_, _%_}
 use mathlib.Core.Path.{_≡_, refl, sym, _∙_}
-use mathlib.Core.List.{List, [], _∷_}
-use native.Mathlib.Omega.{arith}
+use mathlib.Core.List.{List}
 use lib.ListN.{getD}
 use Rattle.blocks.specs.Xor.{_⊕_}
 use Rattle.blocks.specs.Permutation.{Permutation, Block, BlockPermutation}

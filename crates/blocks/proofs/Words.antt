@@ -2,7 +2,7 @@
 -- Assumes nothing.
 use Prim.Native.Nat.{ℕ, zero, suc, _+_, _-_, _*_, _/_, _%_, _^_, _≤_, _<_}
 use mathlib.Core.Path.{_≡_, refl, sym, ap, _∙_}
-use mathlib.Core.List.{List, [], _∷_, _++_}
+use mathlib.Core.List.{List, [], _∷_}
 use mathlib.Core.Logic.{_⊎_, inl, inr, ⊎-elim}
 use native.Mathlib.Nat.{add-zero, zero-add, add-assoc, eq-or-lt-of-le, eq-zero-or-pos, le-of-suc-le-suc, not-suc-le-zero}
 use native.Mathlib.Omega.{arith}
@@ -13,7 +13,7 @@ use lib.Seq.{getD-at, getD-drop, drop-drop}
 use Rattle.blocks.specs.Xor.{_⊕_}
 use Rattle.blocks.specs.Bytes.{Bytes, number, bytes, block}
 use Rattle.blocks.specs.Field.{power}
-use Rattle.blocks.specs.Aes.{_·_, box, word, byteOf, rotWord, subWord, rcon, Constants, choose, temp, keyWord, keyWords}
+use Rattle.blocks.specs.Aes.{_·_, box, word, byteOf, rotWord, subWord, rcon, Constants, temp, keyWord, keyWords}
 use Rattle.blocks.proofs.Bytes.{bytes-below, bytes-number, number-append, padded, padded-add}
 use Rattle.blocks.proofs.Place.{number-fits, high-half}
 

@@ -1,5 +1,5 @@
--- AES of FIPS 197, by its names and with its sections' numbers. A state is a list of 16 bytes, a word of the key a number below 2 ^ 32, a
--- block a number below 2 ^ 128; each is its bytes with the first one highest.
+-- AES of FIPS 197, by its names and in the order of its sections. A state is a list of 16 bytes; a word of the key is a number below 2 ^ 32
+-- and a block one below 2 ^ 128, the first byte highest.
 use Prim.Native.Nat.{ℕ, zero, suc, _+_, _-_, _*_, _/_, _%_, _^_, _<_}
 use mathlib.Core.Path.{_≡_}
 use mathlib.Core.Bool.{Bool, true, false, _&&_}
@@ -12,6 +12,23 @@ use Rattle.blocks.specs.Field.{product, power}
 use Rattle.blocks.specs.Permutation.{BlockCipher}
 
 infixl 70 _·_
+-- ---- 3.4: the state
+
+abbrev pub State : List ℕ → Type 0
+State = OfLength 16
+
+-- The byte in row r, column c.
+unfoldable pub at : List ℕ → ℕ → ℕ → ℕ
+at s r c = getD s (r + 4 * c) 0
+
+-- The state with f r c in row r, column c.
+unfoldable pub state : (ℕ → ℕ → ℕ) → List ℕ
+state f =
+    f 0 0 ∷ f 1 0 ∷ f 2 0 ∷ f 3 0 ∷
+    f 0 1 ∷ f 1 1 ∷ f 2 1 ∷ f 3 1 ∷
+    f 0 2 ∷ f 1 2 ∷ f 2 2 ∷ f 3 2 ∷
+    f 0 3 ∷ f 1 3 ∷ f 2 3 ∷ f 3 3 ∷ []
+
 -- ---- 4: bytes are the elements of GF(2^8)
 
 abbrev pub Byte : ℕ → Type 0
@@ -30,7 +47,7 @@ squares (suc n) a = a · a · squares n (a · a)
 unfoldable pub inverse : ℕ → ℕ
 inverse a = squares 7 a
 
--- ---- 5.1.1 and 5.3.2: the box and its inverse
+-- ---- 5.1: Cipher, over the round keys by their numbers and the number of rounds Nr
 
 -- Digit i of a byte; the digits' numbers are taken modulo 8.
 unfoldable pub bit : ℕ → ℕ → ℕ
@@ -41,76 +58,30 @@ unfoldable pub ofBits : ℕ → (ℕ → ℕ) → ℕ
 ofBits zero d = 0
 ofBits (suc n) d = d n * 2 ^ n + ofBits n d
 
+-- 5.1.1: the affine map, the box, and SubBytes.
 unfoldable pub affine : ℕ → ℕ
 affine b = ofBits 8 (λ i. bit b i ⊕ bit b (i + 4) ⊕ bit b (i + 5) ⊕ bit b (i + 6) ⊕ bit b (i + 7) ⊕ bit 0x63 i)
-
-unfoldable pub invAffine : ℕ → ℕ
-invAffine b = ofBits 8 (λ i. bit b (i + 2) ⊕ bit b (i + 5) ⊕ bit b (i + 7) ⊕ bit 0x05 i)
 
 unfoldable pub box : ℕ → ℕ
 box b = affine (inverse b)
 
-unfoldable pub invBox : ℕ → ℕ
-invBox b = inverse (invAffine b)
-
--- The list t is the table of f on the bytes.
-pub record Table (f : ℕ → ℕ) (t : List ℕ) : Type 0 where
-  pub entry : (b : ℕ) → b < 256 → getD t b 0 ≡ f b
-
--- ---- 3.4: the state
-
-abbrev pub State : List ℕ → Type 0
-State = OfLength 16
-
--- The byte in row r, column c.
-unfoldable pub at : List ℕ → ℕ → ℕ → ℕ
-at s r c = getD s (r + 4 * c) 0
-
--- The state with f r c in row r, column c.
-unfoldable pub state : (ℕ → ℕ → ℕ) → List ℕ
-state f =
-    f 0 0 ∷ f 1 0 ∷ f 2 0 ∷ f 3 0 ∷
-    f 0 1 ∷ f 1 1 ∷ f 2 1 ∷ f 3 1 ∷
-    f 0 2 ∷ f 1 2 ∷ f 2 2 ∷ f 3 2 ∷
-    f 0 3 ∷ f 1 3 ∷ f 2 3 ∷ f 3 3 ∷ []
-
--- ---- 5.1.1 to 5.1.4: the steps of a round
-
 unfoldable pub subBytes : List ℕ → List ℕ
 subBytes s = state (λ r c. box (at s r c))
 
--- What a table makes of a state, entry by entry: x is that of s under every f whose table it is.
-abbrev pub Substituted : List ℕ → List ℕ → List ℕ → Type 0
-Substituted t s x = (f : ℕ → ℕ) → Table f t → x ≡ state (λ r c. f (at s r c))
-
+-- 5.1.2
 unfoldable pub shiftRows : List ℕ → List ℕ
 shiftRows s = state (λ r c. at s r ((c + r) % 4))
 
--- A byte of a mixed column, from the four bytes of the column from its own row on.
+-- 5.1.3: a byte of a mixed column, from the four bytes of the column from its own row on.
 unfoldable pub mixed : ℕ → ℕ → ℕ → ℕ → ℕ
 mixed a b c d = 0x02 · a ⊕ 0x03 · b ⊕ c ⊕ d
 
 unfoldable pub mixColumns : List ℕ → List ℕ
 mixColumns s = state (λ r c. mixed (at s r c) (at s ((r + 1) % 4) c) (at s ((r + 2) % 4) c) (at s ((r + 3) % 4) c))
 
+-- 5.1.4
 unfoldable pub addRoundKey : List ℕ → List ℕ → List ℕ
 addRoundKey k s = state (λ r c. at s r c ⊕ at k r c)
-
--- ---- 5.3.1 to 5.3.3: their inverses; AddRoundKey is its own
-
-unfoldable pub invShiftRows : List ℕ → List ℕ
-invShiftRows s = state (λ r c. at s r ((c + (4 - r)) % 4))
-
-unfoldable pub invSubBytes : List ℕ → List ℕ
-invSubBytes s = state (λ r c. invBox (at s r c))
-
-unfoldable pub invMixed : ℕ → ℕ → ℕ → ℕ → ℕ
-invMixed a b c d = 0x0e · a ⊕ 0x0b · b ⊕ 0x0d · c ⊕ 0x09 · d
-
-unfoldable pub invMixColumns : List ℕ → List ℕ
-invMixColumns s = state (λ r c. invMixed (at s r c) (at s ((r + 1) % 4) c) (at s ((r + 2) % 4) c) (at s ((r + 3) % 4) c))
-
--- ---- 5.1 and 5.3: Cipher and InvCipher, over the round keys by their numbers and the number of rounds Nr
 
 module _ (key : ℕ → List ℕ) where
   -- Round n, and the last one, which has no mixing.
@@ -125,22 +96,9 @@ module _ (key : ℕ → List ℕ) where
   rounds zero s = addRoundKey (key 0) s
   rounds (suc n) s = round (suc n) (rounds n s)
 
+  -- Cipher with Nr rounds.
   unfoldable pub cipher : ℕ → List ℕ → List ℕ
   cipher Nr s = lastRound Nr (rounds (Nr - 1) s)
-
-  -- The same of InvCipher, whose rounds go from Nr - 1 down to 0.
-  abbrev pub invRound : ℕ → List ℕ → List ℕ
-  invRound n s = invMixColumns (addRoundKey (key n) (invSubBytes (invShiftRows s)))
-
-  abbrev pub invLastRound : ℕ → List ℕ → List ℕ
-  invLastRound n s = addRoundKey (key n) (invSubBytes (invShiftRows s))
-
-  unfoldable pub invRounds : ℕ → List ℕ → List ℕ
-  invRounds zero s = invLastRound 0 s
-  invRounds (suc n) s = invRounds n (invRound (suc n) s)
-
-  unfoldable pub invCipher : ℕ → List ℕ → List ℕ
-  invCipher Nr s = invRounds (Nr - 1) (addRoundKey (key Nr) s)
 
 -- ---- 5.2: KeyExpansion, over the number Nk of the key's words
 
@@ -164,10 +122,6 @@ Nr Nk = Nk + 6
 -- Rcon[j], where the power j - 1 of x is the first byte.
 unfoldable pub rcon : ℕ → ℕ
 rcon j = word (power 1 _·_ 0x02 (j - 1)) 0 0 0
-
--- The list t has the first bytes of Rcon[1] to Rcon[n].
-pub record Constants (n : ℕ) (t : List ℕ) : Type 0 where
-  pub constant : (j : ℕ) → j < n → getD t j 0 ≡ power 1 _·_ 0x02 j
 
 abbrev pub choose : Bool → ℕ → ℕ → ℕ
 choose true a b = a
@@ -197,6 +151,47 @@ keyExpansion Nk key = keyWords Nk key (4 * (Nr Nk + 1))
 unfoldable pub roundKey : List ℕ → ℕ → List ℕ
 roundKey w i = state (λ r c. byteOf (getD w (4 * i + c) 0) r)
 
+-- ---- 5.3: InvCipher
+
+-- 5.3.1
+unfoldable pub invShiftRows : List ℕ → List ℕ
+invShiftRows s = state (λ r c. at s r ((c + (4 - r)) % 4))
+
+-- 5.3.2: the inverse of the affine map, of the box, and of SubBytes.
+unfoldable pub invAffine : ℕ → ℕ
+invAffine b = ofBits 8 (λ i. bit b (i + 2) ⊕ bit b (i + 5) ⊕ bit b (i + 7) ⊕ bit 0x05 i)
+
+unfoldable pub invBox : ℕ → ℕ
+invBox b = inverse (invAffine b)
+
+unfoldable pub invSubBytes : List ℕ → List ℕ
+invSubBytes s = state (λ r c. invBox (at s r c))
+
+-- 5.3.3
+unfoldable pub invMixed : ℕ → ℕ → ℕ → ℕ → ℕ
+invMixed a b c d = 0x0e · a ⊕ 0x0b · b ⊕ 0x0d · c ⊕ 0x09 · d
+
+unfoldable pub invMixColumns : List ℕ → List ℕ
+invMixColumns s = state (λ r c. invMixed (at s r c) (at s ((r + 1) % 4) c) (at s ((r + 2) % 4) c) (at s ((r + 3) % 4) c))
+
+-- AddRoundKey is its own inverse, 5.3.4.
+module _ (key : ℕ → List ℕ) where
+  -- Round n, and the last one, which has no mixing.
+  abbrev pub invRound : ℕ → List ℕ → List ℕ
+  invRound n s = invMixColumns (addRoundKey (key n) (invSubBytes (invShiftRows s)))
+
+  abbrev pub invLastRound : ℕ → List ℕ → List ℕ
+  invLastRound n s = addRoundKey (key n) (invSubBytes (invShiftRows s))
+
+  -- Rounds n down to 0.
+  unfoldable pub invRounds : ℕ → List ℕ → List ℕ
+  invRounds zero s = invLastRound 0 s
+  invRounds (suc n) s = invRounds n (invRound (suc n) s)
+
+  -- InvCipher with Nr rounds.
+  unfoldable pub invCipher : ℕ → List ℕ → List ℕ
+  invCipher Nr s = invRounds (Nr - 1) (addRoundKey (key Nr) s)
+
 -- ---- blocks
 
 unfoldable pub encipher : ℕ → List ℕ → ℕ → ℕ
@@ -211,3 +206,17 @@ aes key = record {
   E = encipher (Nr 4) (keyExpansion 4 key);
   D = decipher (Nr 4) (keyExpansion 4 key);
 }
+
+-- ---- what the contracts of the code say of its tables
+
+-- The list t is the table of f on the bytes.
+pub record Table (f : ℕ → ℕ) (t : List ℕ) : Type 0 where
+  pub entry : (b : ℕ) → b < 256 → getD t b 0 ≡ f b
+
+-- What a table makes of a state, entry by entry: x is that of s under every f whose table it is.
+abbrev pub Substituted : List ℕ → List ℕ → List ℕ → Type 0
+Substituted t s x = (f : ℕ → ℕ) → Table f t → x ≡ state (λ r c. f (at s r c))
+
+-- The list t has the first bytes of Rcon[1] to Rcon[n].
+pub record Constants (n : ℕ) (t : List ℕ) : Type 0 where
+  pub constant : (j : ℕ) → j < n → getD t j 0 ≡ power 1 _·_ 0x02 j

@@ -8,6 +8,7 @@ use crate::inv_sbox;
 use crate::sbox;
 use crate::state;
 
+// The first bytes of Rcon, 5.2.
 const RCON: [u8; 10] = [0x01, 0x02, 0x04, 0x08, 0x10, 0x20, 0x40, 0x80, 0x1b, 0x36];
 
 // The words of KeyExpansion, four for each round key.
@@ -22,7 +23,7 @@ fn word(a: u8, b: u8, c: u8, d: u8) -> u32
     (((a as u32) * 256 + b as u32) * 256 + c as u32) * 256 + d as u32
 }
 
-// SubWord of RotWord.
+// SubWord of RotWord, 5.2.
 fn sub_rot_word(table: &[u8; 256], w: u32) -> u32
     requires { ⌜ Table box (now table) ⌝ }
     ensures { λ r. ⌜ r ≡ subWord (rotWord w) ⌝ }
@@ -50,7 +51,7 @@ fn key_word(key: &[u8], table: &[u8; 256], rcon: &[u8; 10], words: &[u32; 44], i
     words[i - 4] ^ (sub_rot_word(table, before) ^ word(rcon[i / 4 - 1], 0, 0, 0))
 }
 
-// Cipher.
+// Cipher, 5.1.
 fn cipher(words: &[u32; 44], s: [u8; 16]) -> [u8; 16]
     ensures { λ x. ⌜ x ≡ cipher (roundKey (now (words .entry))) (Nr 4) s ⌝ }
 {
@@ -63,7 +64,7 @@ fn cipher(words: &[u32; 44], s: [u8; 16]) -> [u8; 16]
     t
 }
 
-// InvCipher.
+// InvCipher, 5.3: the round keys backwards.
 fn inv_cipher(words: &[u32; 44], s: [u8; 16]) -> [u8; 16]
     ensures { λ x. ⌜ x ≡ invCipher (roundKey (now (words .entry))) (Nr 4) s ⌝ }
 {
@@ -78,6 +79,7 @@ fn inv_cipher(words: &[u32; 44], s: [u8; 16]) -> [u8; 16]
 }
 
 impl ExpandedKey {
+    // Expands a key of 16 bytes. Of a longer one the rest is not read, and a shorter one is read with zero bytes behind it.
     pub fn new(key: &[u8]) -> ExpandedKey
         ensures { λ r. ⌜ r .words ≡ keyExpansion 4 (now (key .entry)) ⌝ }
     {
@@ -91,6 +93,7 @@ impl ExpandedKey {
         ExpandedKey { words }
     }
 
+    // E of a block.
     pub fn encipher(self, block: Block) -> Block
         ensures { λ r. ⌜ value r ≡ encipher (Nr 4) (self .words) (value block) ⌝ }
     {
@@ -98,6 +101,7 @@ impl ExpandedKey {
         Block::from_bytes(cipher(&words, block.to_bytes()))
     }
 
+    // D of a block.
     pub fn decipher(self, block: Block) -> Block
         ensures { λ r. ⌜ value r ≡ decipher (Nr 4) (self .words) (value block) ⌝ }
     {

@@ -1,5 +1,5 @@
-// The substitution box of FIPS 197, 5.1.1, handed out whole: the caller keeps it in a local and lends it, since a constant table that is indexed in place
-// is stored anew at each look-up.
+// The substitution box of FIPS 197, 5.1.1, handed out whole: the caller keeps it in a local and lends it, since a constant table that
+// is indexed in place is stored anew at each look-up.
 ghost use Rattle.blocks.specs.Aes.{Table, box};
 
 const SBOX: [u8; 256] = [

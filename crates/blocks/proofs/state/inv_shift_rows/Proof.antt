@@ -1,6 +1,5 @@
 -- Three shifts by one are a shift by three, which is one back.
 -- Assumes nothing.
-use mathlib.Core.Path.{refl}
 use Rattle.blocks.specs.Aes.{at, state, shiftRows, invShiftRows}
 use borrow.Author.Needs.{needs}
 use Rattle.blocks.proofs.state.inv_shift_rows.Statement.{statement}

@@ -1,7 +1,7 @@
 -- The highest digit of a byte is 0 or 1, and so often is 1b added.
 -- Assumes nothing.
 use Prim.Native.Nat.{ℕ, zero, suc, _*_, _/_, _%_, _^_, _<_}
-use mathlib.Core.Path.{_≡_, sym, _∙_}
+use mathlib.Core.Path.{_≡_, sym}
 use native.Mathlib.Omega.{arith}
 use Rattle.blocks.specs.Xor.{_⊕_}
 use Rattle.blocks.specs.Field.{times01, timesX}
