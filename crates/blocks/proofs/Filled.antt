@@ -29,17 +29,6 @@ one-filled {n} {i} {g} {s} v f h e =
           (λ (k : j < i). getD-set-other s i j v 0 (λ q. omega arith) ∙ f .front j k) (eq-or-lt-of-le (le-of-suc-le-suc (omega arith)));
     }
 
-pub four-filled : {n i : ℕ} {g : ℕ → ℕ} {s : List ℕ} (a b c d : ℕ) → Filled n i g s → i + 3 < n
-    → a ≡ g i → b ≡ g (i + 1) → c ≡ g (i + 2) → d ≡ g (i + 3)
-    → Filled n (i + 4) g (set (set (set (set s i a) (i + 1) b) (i + 2) c) (i + 3) d)
-four-filled {n} {i} a b c d f h ea eb ec ed =
-    let two : i + 1 + 1 ≡ i + 2 = omega arith in
-    let three : i + 2 + 1 ≡ i + 3 = omega arith in
-    let four : i + 3 + 1 ≡ i + 4 = omega arith in
-    let f₂ = rw two at (one-filled b (one-filled a f (omega arith) ea) (omega arith) eb) in
-    let f₃ = rw three at (one-filled c f₂ (omega arith) ec) in
-    rw four at (one-filled d f₃ (omega arith) ed)
-
 pub refilled : {n i : ℕ} {g h : ℕ → ℕ} {s : List ℕ} → ((j : ℕ) → g j ≡ h j) → Filled n i g s → Filled n i h s
 refilled e f = record { within = f .within; same-length = f .same-length; front = λ j l. f .front j l ∙ e j }
 

@@ -207,7 +207,7 @@ aes key = record {
   D = decipher (Nr 4) (keyExpansion 4 key);
 }
 
--- ---- what the contracts of the code say of its tables
+-- ---- what else the contracts of the code cite
 
 -- The list t is the table of f on the bytes.
 pub record Table (f : ℕ → ℕ) (t : List ℕ) : Type 0 where
@@ -220,3 +220,7 @@ Substituted t s x = (f : ℕ → ℕ) → Table f t → x ≡ state (λ r c. f (
 -- The list t has the first bytes of Rcon[1] to Rcon[n].
 pub record Constants (n : ℕ) (t : List ℕ) : Type 0 where
   pub constant : (j : ℕ) → j < n → getD t j 0 ≡ power 1 _·_ 0x02 j
+
+-- The columns, each from its second row on and the first one last.
+unfoldable pub nextRows : List ℕ → List ℕ
+nextRows s = state (λ r c. at s ((r + 1) % 4) c)

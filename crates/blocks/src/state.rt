@@ -2,7 +2,7 @@
 ghost use Prim.Native.Nat.{_≤_, _<_};
 ghost use mathlib.Core.Path.{_≡_};
 ghost use lib.ListN.{getD};
-ghost use Rattle.blocks.specs.Aes.{box, invBox, Table, Substituted, shiftRows, mixed, mixColumns, addRoundKey, invShiftRows, invMixColumns, round, lastRound, invRound, invLastRound, byteOf, Nr, roundKey};
+ghost use Rattle.blocks.specs.Aes.{box, invBox, Table, Substituted, shiftRows, mixed, nextRows, mixColumns, addRoundKey, invShiftRows, invMixColumns, round, lastRound, invRound, invLastRound, byteOf, Nr, roundKey};
 
 // The number of rounds that a key of 16 bytes gets.
 pub(crate) const ROUNDS: usize = 10;
@@ -50,20 +50,26 @@ fn mix(a: u8, b: u8, c: u8, d: u8) -> u8
     (e << 1) ^ ((e >> 7) * 0x1b) ^ b ^ c ^ d
 }
 
+// Each column, from its second row on and the first one last.
+fn next_rows(s: [u8; 16]) -> [u8; 16]
+    ensures { λ x. ⌜ x ≡ nextRows s ⌝ }
+{
+    let mut t = [0u8; 16];
+    for i in 0..16usize {
+        t[i] = s[i / 4 * 4 + (i + 1) % 4];
+    }
+    t
+}
+
 pub(crate) fn mix_columns(s: [u8; 16]) -> [u8; 16]
     ensures { λ x. ⌜ x ≡ mixColumns s ⌝ }
 {
+    let b = next_rows(s);
+    let c = next_rows(b);
+    let d = next_rows(c);
     let mut t = [0u8; 16];
-    for j in 0..4usize {
-        let i = 4 * j;
-        let a = s[i];
-        let b = s[i + 1];
-        let c = s[i + 2];
-        let d = s[i + 3];
-        t[i] = mix(a, b, c, d);
-        t[i + 1] = mix(b, c, d, a);
-        t[i + 2] = mix(c, d, a, b);
-        t[i + 3] = mix(d, a, b, c);
+    for i in 0..16usize {
+        t[i] = mix(s[i], b[i], c[i], d[i]);
     }
     t
 }

@@ -1,114 +1,73 @@
--- Column by column, four bytes a turn.
+-- Entry by entry: the byte there and those of the next rows of its column.
 -- Assumes nothing.
-use Prim.Native.Nat.{ℕ, zero, suc, _+_, _-_, _*_, _≤_, _<_}
+use Prim.Native.Nat.{ℕ, _-_}
 use mathlib.Core.Path.{_≡_, refl, _∙_}
 use mathlib.Core.List.{List}
 use native.Mathlib.Omega.{arith}
 use lib.ListN.{getD}
-use Rattle.blocks.specs.Aes.{at, state, mixed, mixColumns}
-use Rattle.blocks.proofs.Filled.{Filled, none-filled, four-filled, all-filled-with}
+use Rattle.blocks.specs.Aes.{at, state, mixed, nextRows, mixColumns}
+use Rattle.blocks.proofs.Table.{table}
+use Rattle.blocks.proofs.Filled.{Filled, none-filled, one-filled, all-filled}
 use borrow.Author.Needs.{needs}
 use Rattle.blocks.proofs.state.mix_columns.Statement.{statement}
 use Rattle.blocks.proofs.state.mix_columns.Tie as tie
 
-entries : (s : List ℕ) (j : ℕ) → j < 4
-    → (mixed (getD s (4 * j) 0) (getD s (4 * j + 1) 0) (getD s (4 * j + 2) 0) (getD s (4 * j + 3) 0) ≡ getD (mixColumns s) (4 * j) 0)
-    × (mixed (getD s (4 * j + 1) 0) (getD s (4 * j + 2) 0) (getD s (4 * j + 3) 0) (getD s (4 * j) 0) ≡ getD (mixColumns s) (4 * j + 1) 0)
-    × (mixed (getD s (4 * j + 2) 0) (getD s (4 * j + 3) 0) (getD s (4 * j) 0) (getD s (4 * j + 1) 0) ≡ getD (mixColumns s) (4 * j + 2) 0)
-    × (mixed (getD s (4 * j + 3) 0) (getD s (4 * j) 0) (getD s (4 * j + 1) 0) (getD s (4 * j + 2) 0) ≡ getD (mixColumns s) (4 * j + 3) 0)
-unfolding at state mixColumns
-entries s zero h = (refl, refl, refl, refl)
-entries s (suc zero) h = (refl, refl, refl, refl)
-entries s (suc (suc zero)) h = (refl, refl, refl, refl)
-entries s (suc (suc (suc zero))) h = (refl, refl, refl, refl)
-entries s (suc (suc (suc (suc j)))) h = absurd (omega arith)
+abbrev entry : List ℕ → List ℕ → List ℕ → List ℕ → ℕ → ℕ
+entry s b c d j = mixed (getD s j 0) (getD b j 0) (getD c j 0) (getD d j 0)
+
+rows : (s b c d : List ℕ) → b ≡ nextRows s → c ≡ nextRows b → d ≡ nextRows c → table (entry s b c d) 16 0 ≡ mixColumns s
+unfolding at state nextRows mixColumns
+rows s b c d eb ec ed = rw (ed, ec, eb)
 
 abbrev Inv-loop : tie.InvT-loop
-Inv-loop s t₀ j₀ t j = (j ≤ 4) × Filled 16 (4 * j) (λ k. getD (mixColumns s) k 0) t
+Inv-loop s b c d t₀ i₀ t i = Filled 16 i (entry s b c d) t
 
 abbrev μ-loop : tie.MeasureT-loop
-μ-loop s t₀ j₀ t j = 4 - j
+μ-loop s b c d t₀ i₀ t i = 16 - i
+
+next-rows-requires : tie.Need-next-rows-requires Inv-loop μ-loop
+next-rows-requires c κs = tt
+
+next-rows-requires-2 : tie.Need-next-rows-requires-2 Inv-loop μ-loop
+next-rows-requires-2 c κs = tt
+
+next-rows-requires-3 : tie.Need-next-rows-requires-3 Inv-loop μ-loop
+next-rows-requires-3 c κs = tt
 
 loop-holds : tie.Need-loop-holds Inv-loop μ-loop
-loop-holds c = (omega arith, none-filled 16 (λ k. getD (mixColumns (c .args .t1)) k 0) refl)
+loop-holds c = none-filled 16 (entry (c .before .before .before .args .t1) (c .before .before .next-rows .result) (c .before .next-rows2 .result) (c .next-rows3 .result)) refl
 
-mul-i : tie.Need-mul-i Inv-loop μ-loop
-mul-i c = search needs
+array-read-mix : tie.Need-array-read-mix Inv-loop μ-loop
+array-read-mix c = c .loop-test .taken
 
-array-read-a : tie.Need-array-read-a Inv-loop μ-loop
-array-read-a c = search needs
+array-read-mix-2 : tie.Need-array-read-mix-2 Inv-loop μ-loop
+array-read-mix-2 c = c .loop-test .taken
 
-add-b : tie.Need-add-b Inv-loop μ-loop
-add-b c = search needs
+array-read-mix-3 : tie.Need-array-read-mix-3 Inv-loop μ-loop
+array-read-mix-3 c = c .loop-test .taken
 
-array-read-b : tie.Need-array-read-b Inv-loop μ-loop
-array-read-b c = search needs
-
-add-c : tie.Need-add-c Inv-loop μ-loop
-add-c c = search needs
-
-array-read-c : tie.Need-array-read-c Inv-loop μ-loop
-array-read-c c = search needs
-
-add-d : tie.Need-add-d Inv-loop μ-loop
-add-d c = search needs
-
-array-read-d : tie.Need-array-read-d Inv-loop μ-loop
-array-read-d c = search needs
+array-read-mix-4 : tie.Need-array-read-mix-4 Inv-loop μ-loop
+array-read-mix-4 c = c .loop-test .taken
 
 mix-requires : tie.Need-mix-requires Inv-loop μ-loop
-mix-requires c κs = search needs
+mix-requires c κs = tt
 
 array-write-t : tie.Need-array-write-t Inv-loop μ-loop
-array-write-t c = search needs
+array-write-t c = c .before .loop-test .taken
 
-mix-requires-2 : tie.Need-mix-requires-2 Inv-loop μ-loop
-mix-requires-2 c κs = search needs
-
-add-t : tie.Need-add-t Inv-loop μ-loop
-add-t c = search needs
-
-array-write-t-2 : tie.Need-array-write-t-2 Inv-loop μ-loop
-array-write-t-2 c = search needs
-
-mix-requires-3 : tie.Need-mix-requires-3 Inv-loop μ-loop
-mix-requires-3 c κs = search needs
-
-add-t-2 : tie.Need-add-t-2 Inv-loop μ-loop
-add-t-2 c = search needs
-
-array-write-t-3 : tie.Need-array-write-t-3 Inv-loop μ-loop
-array-write-t-3 c = search needs
-
-mix-requires-4 : tie.Need-mix-requires-4 Inv-loop μ-loop
-mix-requires-4 c κs = search needs
-
-add-t-3 : tie.Need-add-t-3 Inv-loop μ-loop
-add-t-3 c = search needs
-
-array-write-t-4 : tie.Need-array-write-t-4 Inv-loop μ-loop
-array-write-t-4 c = search needs
-
-add-j : tie.Need-add-j Inv-loop μ-loop
-add-j c = search needs
+add-i : tie.Need-add-i Inv-loop μ-loop
+add-i c = search needs
 
 loop-less : tie.Need-loop-less Inv-loop μ-loop
 loop-less c = search needs
 
 loop-again : tie.Need-loop-again Inv-loop μ-loop
-loop-again c =
-    let l = c .before .before .before .before .before .loop in
-    let e : 4 * (l .j + 1) ≡ 4 * l .j + 4 = omega arith in
-    let m = entries (c .before .before .before .before .before .before .args .t1) (l .j) (omega arith) in (
-      omega arith,
-      rw e (four-filled _ _ _ _ (l .inv .1) (omega arith)
-          (c .before .before .before .mix .ensures ∙ m .0) (c .before .before .mix2 .ensures ∙ m .1)
-          (c .before .mix3 .ensures ∙ m .2) (c .mix4 .ensures ∙ m .3)),
-    )
+loop-again c = one-filled (c .mix .result) (c .before .before .loop .inv) (c .before .loop-test .taken) (c .mix .ensures)
 
 returns : tie.Need-returns Inv-loop μ-loop
-unfolding state mixColumns
-returns c = all-filled-with (mixColumns (c .before .before .args .t1)) refl (λ k h. refl) (c .before .loop .inv .1) (omega arith)
+returns c = 
+    all-filled (c .before .loop .inv) (c .loop-test .left)
+    ∙ rows (c .before .before .before .before .before .args .t1) _ _ _ (c .before .before .before .before .next-rows .ensures) (c .before .before .before .next-rows2 .ensures) (c .before .before .next-rows3 .ensures)
 
 pub mix-columns-spec : {M : Type 1} → statement M
 mix-columns-spec =
@@ -116,27 +75,17 @@ mix-columns-spec =
     (tie.spec
     Inv-loop
     μ-loop
+    next-rows-requires
+    next-rows-requires-2
+    next-rows-requires-3
     loop-holds
-    mul-i
-    array-read-a
-    add-b
-    array-read-b
-    add-c
-    array-read-c
-    add-d
-    array-read-d
+    array-read-mix
+    array-read-mix-2
+    array-read-mix-3
+    array-read-mix-4
     mix-requires
     array-write-t
-    mix-requires-2
-    add-t
-    array-write-t-2
-    mix-requires-3
-    add-t-2
-    array-write-t-3
-    mix-requires-4
-    add-t-3
-    array-write-t-4
-    add-j
+    add-i
     loop-less
     loop-again
     returns)
