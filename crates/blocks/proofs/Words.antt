@@ -13,7 +13,7 @@ use lib.Seq.{getD-at, getD-drop, drop-drop}
 use Rattle.blocks.specs.Xor.{_⊕_}
 use Rattle.blocks.specs.Bytes.{Bytes, number, bytes, block}
 use Rattle.blocks.specs.Field.{power}
-use Rattle.blocks.specs.Aes.{_·_, box, word, byteOf, rotWord, subWord, rcon, Constants, temp, keyWord, keyWords}
+use Rattle.blocks.specs.Aes.{_·_, box, word, byteOf, rotWord, subWord, rcon, Constants, temp, ownWord, keyWord, keyWords}
 use Rattle.blocks.proofs.Bytes.{bytes-below, bytes-number, number-append, padded, padded-add}
 use Rattle.blocks.proofs.Place.{number-fits, high-half}
 
@@ -39,10 +39,10 @@ unfolding subWord byteOf
 sub-rot w = ap (λ (s : List ℕ). word (box (getD s 0 0)) (box (getD s 1 0)) (box (getD s 2 0)) (box (getD s 3 0))) (rot-bytes w)
 
 -- The highest word of a block that is read.
-pub read-word : (at : ℕ) (s : List ℕ) → Bytes s
-    → block (drop at s) / 2 ^ 64 / 2 ^ 32 ≡ word (getD s at 0) (getD s (at + 1) 0) (getD s (at + 2) 0) (getD s (at + 3) 0)
-unfolding word padded
-read-word at s h =
+pub read-word : (i : ℕ) (s : List ℕ) → Bytes s → block (drop (4 * i) s) / 2 ^ 64 / 2 ^ 32 ≡ ownWord s i
+unfolding ownWord word padded
+read-word i s h =
+    let at = 4 * i in
     let t = drop at s in
     let low : number (padded 4 (drop 4 t)) < 256 ^ 4 = rw drop-drop (number-fits 4 4 (at + 4) s h (omega arith)) in
     rw (high-half at s h, padded-add 4 4 t, number-append, digits-div (number (padded 4 t)) low) (simp (getD-drop, drop-drop, add-zero, add-assoc))
@@ -64,23 +64,25 @@ pub constants : {n : ℕ} {t : List ℕ} → t ≡ doubles n 1 → Constants n t
 unfolding power
 constants {n} e = record { constant = λ j l. rw e (rw zero-add at (doubled n 0 j l)) }
 
--- Word i of a key: the key's own, one in the middle of Nk, or the first of Nk.
+-- What is added to the word Nk places back, in the middle of Nk words and at the first of them.
+module _ (Nk i t : ℕ) where
+  pub temp-middle : Nk ≤ 6 → 0 < i % Nk → temp Nk i t ≡ t
+  unfolding temp
+  temp-middle small m = rw (ne-eqb (i % Nk) 0 (λ e. omega arith), le-ltb 6 Nk small)
+
+  pub temp-first : i % Nk ≡ 0 → temp Nk i t ≡ subWord (rotWord t) ⊕ rcon (i / Nk)
+  unfolding temp
+  temp-first z = rw (eq-eqb (i % Nk) 0 z)
+
+-- Word i of a key: the key's own, or one of those that follow.
 module _ (Nk : ℕ) (key : List ℕ) (i : ℕ) (w : List ℕ) where
-  pub own-word : i < Nk → keyWord Nk key i w ≡ word (getD key (4 * i) 0) (getD key (4 * i + 1) 0) (getD key (4 * i + 2) 0) (getD key (4 * i + 3) 0)
+  pub own-word : i < Nk → keyWord Nk key i w ≡ ownWord key i
   unfolding keyWord
   own-word h = rw (lt-ltb i Nk h)
 
   pub next-word : Nk ≤ i → keyWord Nk key i w ≡ getD w (i - Nk) 0 ⊕ temp Nk i (getD w (i - 1) 0)
   unfolding keyWord
   next-word h = rw (le-ltb i Nk h)
-
-  pub middle-word : Nk ≤ i → Nk ≤ 6 → 0 < i % Nk → keyWord Nk key i w ≡ getD w (i - Nk) 0 ⊕ getD w (i - 1) 0
-  unfolding temp
-  middle-word h small m = rw (next-word h, ne-eqb (i % Nk) 0 (λ e. omega arith), le-ltb 6 Nk small)
-
-  pub first-word : Nk ≤ i → i % Nk ≡ 0 → keyWord Nk key i w ≡ getD w (i - Nk) 0 ⊕ (subWord (rotWord (getD w (i - 1) 0)) ⊕ rcon (i / Nk))
-  unfolding temp
-  first-word h z = rw (next-word h, eq-eqb (i % Nk) 0 z)
 
 -- The words one after the other, and each from those before it.
 pub length-keyWords : (Nk : ℕ) (key : List ℕ) (n : ℕ) → length (keyWords Nk key n) ≡ n

@@ -133,11 +133,13 @@ temp Nk i t =
     choose (eqb (i % Nk) 0) (subWord (rotWord t) ⊕ rcon (i / Nk))
     (choose (ltb 6 Nk && eqb (i % Nk) 4) (subWord t) t)
 
--- Word i of a key, from the words before it: the first Nk are the key's own. (Past its end a key has zero bytes.)
+-- Word i of the key itself. (Past its end a key has zero bytes.)
+unfoldable pub ownWord : List ℕ → ℕ → ℕ
+ownWord key i = word (getD key (4 * i) 0) (getD key (4 * i + 1) 0) (getD key (4 * i + 2) 0) (getD key (4 * i + 3) 0)
+
+-- Word i of the expanded key, from the words before it: the first Nk are the key's own.
 unfoldable pub keyWord : ℕ → List ℕ → ℕ → List ℕ → ℕ
-keyWord Nk key i w =
-    choose (ltb i Nk) (word (getD key (4 * i) 0) (getD key (4 * i + 1) 0) (getD key (4 * i + 2) 0) (getD key (4 * i + 3) 0))
-    (getD w (i - Nk) 0 ⊕ temp Nk i (getD w (i - 1) 0))
+keyWord Nk key i w = choose (ltb i Nk) (ownWord key i) (getD w (i - Nk) 0 ⊕ temp Nk i (getD w (i - 1) 0))
 
 -- The first n words.
 unfoldable pub keyWords : ℕ → List ℕ → ℕ → List ℕ

@@ -1,7 +1,8 @@
 // AES-128 of FIPS 197.
-ghost use Prim.Native.Nat.{_+_, _<_};
+ghost use Prim.Native.Nat.{_+_, _≤_, _<_};
 ghost use mathlib.Core.Path.{_≡_};
-ghost use Rattle.blocks.specs.Aes.{Table, box, word, Constants, rotWord, subWord, keyWord, Nr, keyExpansion, roundKey, cipher, invCipher, encipher, decipher};
+ghost use Rattle.blocks.specs.Xor.{_⊕_};
+ghost use Rattle.blocks.specs.Aes.{Table, box, word, Constants, rotWord, subWord, temp, ownWord, keyWord, Nr, keyExpansion, roundKey, cipher, invCipher, encipher, decipher};
 ghost use Rattle.blocks.specs.Block.{value};
 use crate::block::Block;
 use crate::inv_sbox;
@@ -36,19 +37,34 @@ fn sub_rot_word(table: &[u8; 256], w: u32) -> u32
     )
 }
 
+// Word i of the key itself.
+fn own_word(key: &[u8], i: usize) -> u32
+    requires { ⌜ i < 4 ⌝ }
+    ensures { λ r. ⌜ r ≡ ownWord (now (key .entry)) i ⌝ }
+{
+    (Block::read(key, 4 * i).hi >> 32) as u32
+}
+
+// Word i of the expanded key, from the one four back and the one before it.
+fn next_word(table: &[u8; 256], rcon: &[u8; 10], i: usize, back: u32, before: u32) -> u32
+    requires { ⌜ Table box (now table) × Constants (Nr 4) (now rcon) × (4 ≤ i) × (i < 44) ⌝ }
+    ensures { λ r. ⌜ r ≡ back ⊕ temp 4 i before ⌝ }
+{
+    if i % 4 > 0 {
+        return back ^ before;
+    }
+    back ^ (sub_rot_word(table, before) ^ word(rcon[i / 4 - 1], 0, 0, 0))
+}
+
 // Word i of the expanded key, from those before it.
 fn key_word(key: &[u8], table: &[u8; 256], rcon: &[u8; 10], words: &[u32; 44], i: usize) -> u32
     requires { ⌜ Table box (now table) × Constants (Nr 4) (now rcon) × (i < 44) ⌝ }
     ensures { λ r. ⌜ r ≡ keyWord 4 (now (key .entry)) i (now (words .entry)) ⌝ }
 {
     if i < 4 {
-        return (Block::read(key, 4 * i).hi >> 32) as u32;
+        return own_word(key, i);
     }
-    let before = words[i - 1];
-    if i % 4 > 0 {
-        return words[i - 4] ^ before;
-    }
-    words[i - 4] ^ (sub_rot_word(table, before) ^ word(rcon[i / 4 - 1], 0, 0, 0))
+    next_word(table, rcon, i, words[i - 4], words[i - 1])
 }
 
 // Cipher, 5.1.

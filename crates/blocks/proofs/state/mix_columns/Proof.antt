@@ -3,7 +3,6 @@
 use Prim.Native.Nat.{ℕ, _-_}
 use mathlib.Core.Path.{_≡_, refl, _∙_}
 use mathlib.Core.List.{List}
-use native.Mathlib.Omega.{arith}
 use lib.ListN.{getD}
 use Rattle.blocks.specs.Aes.{at, state, mixed, nextRows, mixColumns}
 use Rattle.blocks.proofs.Table.{table}
@@ -65,7 +64,7 @@ loop-again : tie.Need-loop-again Inv-loop μ-loop
 loop-again c = one-filled (c .mix .result) (c .before .before .loop .inv) (c .before .loop-test .taken) (c .mix .ensures)
 
 returns : tie.Need-returns Inv-loop μ-loop
-returns c = 
+returns c =
     all-filled (c .before .loop .inv) (c .loop-test .left)
     ∙ rows (c .before .before .before .before .before .args .t1) _ _ _ (c .before .before .before .before .next-rows .ensures) (c .before .before .before .next-rows2 .ensures) (c .before .before .next-rows3 .ensures)
 
