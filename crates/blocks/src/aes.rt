@@ -25,7 +25,7 @@ fn word(a: u8, b: u8, c: u8, d: u8) -> u32
 }
 
 // SubWord of RotWord, 5.2.
-fn sub_rot_word(table: &[u8; 256], w: u32) -> u32
+fn sub_rot_word(table: &state::Table, w: u32) -> u32
     requires { ⌜ Table box (now table) ⌝ }
     ensures { λ r. ⌜ r ≡ subWord (rotWord w) ⌝ }
 {
@@ -46,7 +46,7 @@ fn own_word(key: &[u8], i: usize) -> u32
 }
 
 // Word i of the expanded key, from the one four back and the one before it.
-fn next_word(table: &[u8; 256], rcon: &[u8; 10], i: usize, back: u32, before: u32) -> u32
+fn next_word(table: &state::Table, rcon: &[u8; 10], i: usize, back: u32, before: u32) -> u32
     requires { ⌜ Table box (now table) × Constants (Nr 4) (now rcon) × (4 ≤ i) × (i < 44) ⌝ }
     ensures { λ r. ⌜ r ≡ back ⊕ temp 4 i before ⌝ }
 {
@@ -57,7 +57,13 @@ fn next_word(table: &[u8; 256], rcon: &[u8; 10], i: usize, back: u32, before: u3
 }
 
 // Word i of the expanded key, from those before it.
-fn key_word(key: &[u8], table: &[u8; 256], rcon: &[u8; 10], words: &[u32; 44], i: usize) -> u32
+fn key_word(
+    key: &[u8],
+    table: &state::Table,
+    rcon: &[u8; 10],
+    words: &state::Words,
+    i: usize,
+) -> u32
     requires { ⌜ Table box (now table) × Constants (Nr 4) (now rcon) × (i < 44) ⌝ }
     ensures { λ r. ⌜ r ≡ keyWord 4 (now (key .entry)) i (now (words .entry)) ⌝ }
 {
@@ -68,7 +74,7 @@ fn key_word(key: &[u8], table: &[u8; 256], rcon: &[u8; 10], words: &[u32; 44], i
 }
 
 // Cipher, 5.1.
-fn cipher(words: &[u32; 44], s: [u8; 16]) -> [u8; 16]
+fn cipher(words: &state::Words, s: state::State) -> state::State
     ensures { λ x. ⌜ x ≡ cipher (roundKey (now (words .entry))) (Nr 4) s ⌝ }
 {
     let table = sbox::table();
@@ -81,7 +87,7 @@ fn cipher(words: &[u32; 44], s: [u8; 16]) -> [u8; 16]
 }
 
 // InvCipher, 5.3: the round keys backwards.
-fn inv_cipher(words: &[u32; 44], s: [u8; 16]) -> [u8; 16]
+fn inv_cipher(words: &state::Words, s: state::State) -> state::State
     ensures { λ x. ⌜ x ≡ invCipher (roundKey (now (words .entry))) (Nr 4) s ⌝ }
 {
     let table = inv_sbox::table();

@@ -1,21 +1,28 @@
 // The steps of AES's rounds, FIPS 197, 5.1 and 5.3. A state is 16 bytes, of which byte r + 4c stands in row r, column c.
-ghost use Prim.Native.Nat.{_≤_, _<_};
+ghost use Prim.Native.Nat.{_+_, _*_, _/_, _%_, _≤_, _<_};
 ghost use mathlib.Core.Path.{_≡_};
 ghost use lib.ListN.{getD};
 ghost use Rattle.blocks.specs.Aes.{box, invBox, Table, Substituted, shiftRows, mixed, nextRows, mixColumns, addRoundKey, invShiftRows, invMixColumns, round, lastRound, invRound, invLastRound, byteOf, Nr, roundKey};
+
+// A state, the words of an expanded key, and a table of the bytes.
+pub(crate) type State = [u8; 16];
+
+pub(crate) type Words = [u32; 44];
+
+pub(crate) type Table = [u8; 256];
 
 // The number of rounds that a key of 16 bytes gets.
 pub(crate) const ROUNDS: usize = 10;
 
 // The entry at a byte.
-pub(crate) fn look(table: &[u8; 256], b: u8) -> u8
+pub(crate) fn look(table: &Table, b: u8) -> u8
     ensures { λ r. ⌜ r ≡ getD (now (table .entry)) b 0 ⌝ }
 {
     table[b as usize]
 }
 
 // SubBytes, or its inverse, by the box that is lent.
-pub(crate) fn sub_bytes(table: &[u8; 256], s: [u8; 16]) -> [u8; 16]
+pub(crate) fn sub_bytes(table: &Table, s: State) -> State
     ensures { λ x. ⌜ Substituted (now (table .entry)) s x ⌝ }
 {
     let mut t = [0u8; 16];
@@ -25,7 +32,7 @@ pub(crate) fn sub_bytes(table: &[u8; 256], s: [u8; 16]) -> [u8; 16]
     t
 }
 
-pub(crate) fn shift_rows(s: [u8; 16]) -> [u8; 16]
+pub(crate) fn shift_rows(s: State) -> State
     ensures { λ x. ⌜ x ≡ shiftRows s ⌝ }
 {
     let mut t = [0u8; 16];
@@ -36,7 +43,7 @@ pub(crate) fn shift_rows(s: [u8; 16]) -> [u8; 16]
 }
 
 // Each row has four columns, so that three shifts undo one.
-pub(crate) fn inv_shift_rows(s: [u8; 16]) -> [u8; 16]
+pub(crate) fn inv_shift_rows(s: State) -> State
     ensures { λ x. ⌜ x ≡ invShiftRows s ⌝ }
 {
     shift_rows(shift_rows(shift_rows(s)))
@@ -51,7 +58,7 @@ fn mix(a: u8, b: u8, c: u8, d: u8) -> u8
 }
 
 // Each column, from its second row on and the first one last.
-fn next_rows(s: [u8; 16]) -> [u8; 16]
+fn next_rows(s: State) -> State
     ensures { λ x. ⌜ x ≡ nextRows s ⌝ }
 {
     let mut t = [0u8; 16];
@@ -61,7 +68,7 @@ fn next_rows(s: [u8; 16]) -> [u8; 16]
     t
 }
 
-pub(crate) fn mix_columns(s: [u8; 16]) -> [u8; 16]
+pub(crate) fn mix_columns(s: State) -> State
     ensures { λ x. ⌜ x ≡ mixColumns s ⌝ }
 {
     let b = next_rows(s);
@@ -75,7 +82,7 @@ pub(crate) fn mix_columns(s: [u8; 16]) -> [u8; 16]
 }
 
 // The fourth power of the mixing's matrix is the identity, so that three mixings undo one.
-pub(crate) fn inv_mix_columns(s: [u8; 16]) -> [u8; 16]
+pub(crate) fn inv_mix_columns(s: State) -> State
     ensures { λ x. ⌜ x ≡ invMixColumns s ⌝ }
 {
     mix_columns(mix_columns(mix_columns(s)))
@@ -89,19 +96,27 @@ pub(crate) fn byte(w: u32, i: usize) -> u8
     ((w >> (24 - 8 * i)) % 256) as u8
 }
 
-pub(crate) fn add_round_key(words: &[u32; 44], n: usize, s: [u8; 16]) -> [u8; 16]
+// Byte i of the key of round n.
+fn key_byte(words: &Words, n: usize, i: usize) -> u8
+    requires { ⌜ (n ≤ Nr 4) × (i < 16) ⌝ }
+    ensures { λ r. ⌜ r ≡ byteOf (getD (now (words .entry)) (4 * n + i / 4) 0) (i % 4) ⌝ }
+{
+    byte(words[4 * n + i / 4], i % 4)
+}
+
+pub(crate) fn add_round_key(words: &Words, n: usize, s: State) -> State
     requires { ⌜ n ≤ Nr 4 ⌝ }
     ensures { λ x. ⌜ x ≡ addRoundKey (roundKey (now (words .entry)) n) s ⌝ }
 {
     let mut t = [0u8; 16];
     for i in 0..16usize {
-        t[i] = s[i] ^ byte(words[4 * n + i / 4], i % 4);
+        t[i] = s[i] ^ key_byte(words, n, i);
     }
     t
 }
 
 // Round n; the last one has no mixing.
-pub(crate) fn round(table: &[u8; 256], words: &[u32; 44], n: usize, s: [u8; 16]) -> [u8; 16]
+pub(crate) fn round(table: &Table, words: &Words, n: usize, s: State) -> State
     requires { ⌜ Table box (now table) × (n ≤ Nr 4) ⌝ }
     ensures { λ x. ⌜ (n < Nr 4 → x ≡ round (roundKey (now (words .entry))) n s) × (n ≡ Nr 4 → x ≡ lastRound (roundKey (now (words .entry))) n s) ⌝ }
 {
@@ -113,7 +128,7 @@ pub(crate) fn round(table: &[u8; 256], words: &[u32; 44], n: usize, s: [u8; 16])
 }
 
 // Round n of the inverse cipher; the last one, 0, has no mixing.
-pub(crate) fn inv_round(table: &[u8; 256], words: &[u32; 44], n: usize, s: [u8; 16]) -> [u8; 16]
+pub(crate) fn inv_round(table: &Table, words: &Words, n: usize, s: State) -> State
     requires { ⌜ Table invBox (now table) × (n ≤ Nr 4) ⌝ }
     ensures { λ x. ⌜ (0 < n → x ≡ invRound (roundKey (now (words .entry))) n s) × (n ≡ 0 → x ≡ invLastRound (roundKey (now (words .entry))) n s) ⌝ }
 {

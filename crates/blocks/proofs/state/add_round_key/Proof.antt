@@ -19,26 +19,14 @@ abbrev μ-loop : tie.MeasureT-loop
 μ-loop words n s t₀ i₀ t i = 16 - i
 
 loop-holds : tie.Need-loop-holds Inv-loop μ-loop
-loop-holds c =
+loop-holds c = 
     none-filled 16 (λ j. getD (c .args .t3) j 0 ⊕ byteOf (getD (now (c .args .words)) (4 * c .args .n + j / 4) 0) (j % 4)) refl
 
 array-read-t : tie.Need-array-read-t Inv-loop μ-loop
-array-read-t c = search needs
+array-read-t c = c .loop-test .taken
 
-mul-byte : tie.Need-mul-byte Inv-loop μ-loop
-mul-byte c = search needs
-
-add-byte : tie.Need-add-byte Inv-loop μ-loop
-add-byte c = search needs
-
-mul-byte-2 : tie.Need-mul-byte-2 Inv-loop μ-loop
-mul-byte-2 c = search needs
-
-element-copy-out-byte : tie.Need-element-copy-out-byte Inv-loop μ-loop
-element-copy-out-byte c = search needs
-
-byte-requires : tie.Need-byte-requires Inv-loop μ-loop
-byte-requires c κs = search needs
+key-byte-requires : tie.Need-key-byte-requires Inv-loop μ-loop
+key-byte-requires c κs = search needs
 
 array-write-t : tie.Need-array-write-t Inv-loop μ-loop
 array-write-t c = search needs
@@ -51,7 +39,7 @@ loop-less c = search needs
 
 loop-again : tie.Need-loop-again Inv-loop μ-loop
 unfolding _⊕_
-loop-again c = one-filled _ (c .before .before .before .loop .inv) (omega arith) (rw (c .byte .ensures))
+loop-again c = one-filled _ (c .before .before .loop .inv) (omega arith) (rw (c .key-byte .ensures))
 
 returns : tie.Need-returns Inv-loop μ-loop
 unfolding at state addRoundKey roundKey
@@ -65,11 +53,7 @@ add-round-key-spec =
     μ-loop
     loop-holds
     array-read-t
-    mul-byte
-    add-byte
-    mul-byte-2
-    element-copy-out-byte
-    byte-requires
+    key-byte-requires
     array-write-t
     add-i
     loop-less
