@@ -19,7 +19,7 @@ abbrev μ-loop : tie.MeasureT-loop
 μ-loop words n s t₀ i₀ t i = 16 - i
 
 loop-holds : tie.Need-loop-holds Inv-loop μ-loop
-loop-holds c = 
+loop-holds c =
     none-filled 16 (λ j. getD (c .args .t3) j 0 ⊕ byteOf (getD (now (c .args .words)) (4 * c .args .n + j / 4) 0) (j % 4)) refl
 
 array-read-t : tie.Need-array-read-t Inv-loop μ-loop
