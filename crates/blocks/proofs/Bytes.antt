@@ -3,13 +3,13 @@
 use Prim.Native.Nat.{ℕ, zero, suc, _+_, _-_, _*_, _/_, _%_, _^_, _≤_, _<_}
 use mathlib.Core.Path.{_≡_, refl, ap}
 use mathlib.Core.List.{List, [], _∷_, _++_, append-nil}
-use native.Mathlib.Nat.{zero-add, suc-add, add-assoc, add-mul, mul-assoc, mul-comm, mul-zero, mul-suc, pow-zero, pow-suc, pow-succ', one-le-pow, sub-zero, suc-sub-suc, le-refl, mod-eq-of-lt, div-div-eq-div-mul, mul-add-div-right, mul-add-mod-self-right}
+use native.Mathlib.Nat.{zero-add, suc-add, add-assoc, add-mul, mul-assoc, mul-comm, mul-zero, mul-suc, pow-zero, pow-suc, pow-succ', one-le-pow, sub-zero, zero-sub, suc-sub-suc, le-refl, le-of-suc-le-suc, mod-eq-of-lt, div-div-eq-div-mul, mul-add-div-right, mul-add-mod-self-right}
 use native.Mathlib.Numerals.{one-add}
 use native.Mathlib.Omega.{arith}
 use lib.Arith.{digits-lt, digits-div, mod-mul}
 use lib.Pow.{pow-add, pow-pos}
 use lib.ListN.{length, getD, take, drop, replicate, length-append, length-drop, length-replicate, List·getD-eq-default}
-use lib.Seq.{getD-drop, drop-drop, take-all}
+use lib.Seq.{getD-drop, drop-drop, take-nil, take-all, length-take-le}
 use Rattle.blocks.specs.Xor.{_⊕_, xorBytes}
 use Rattle.blocks.specs.Bytes.{Below, Bytes, number, bytes, pad, block, cut, blocks}
 use Rattle.blocks.proofs.Xor.{xor-cancel-right, xor-shr, xor-mod}
@@ -25,6 +25,12 @@ below-append (a ∷ s) t h k (suc i) = below-append s t (λ j. h (suc j)) k i
 
 pub below-drop : {n : ℕ} (m : ℕ) (s : List ℕ) → Below n s → Below n (drop m s)
 below-drop m s h i = rw getD-drop (h (m + i))
+
+pub below-take : {n : ℕ} (m : ℕ) (s : List ℕ) → Below n s → Below n (take m s)
+below-take zero s h i = below-pos s h
+below-take (suc m) [] h i = h i
+below-take (suc m) (a ∷ s) h zero = h 0
+below-take (suc m) (a ∷ s) h (suc i) = below-take m s (λ j. h (suc j)) i
 
 pub below-zeros : {n : ℕ} (m : ℕ) → 0 < n → Below n (replicate m 0)
 below-zeros zero h i = h
@@ -110,6 +116,19 @@ take-xorBytes (suc n) [] t = refl
 take-xorBytes (suc n) (a ∷ s) [] = refl
 take-xorBytes (suc n) (a ∷ s) (b ∷ t) = rw (take-xorBytes n s t)
 
+pub xorBytes-append : (s t u v : List ℕ) → length s ≡ length t → xorBytes (s ++ u) (t ++ v) ≡ xorBytes s t ++ xorBytes u v
+unfolding xorBytes
+xorBytes-append [] [] u v h = refl
+xorBytes-append [] (b ∷ t) u v h = absurd (omega arith)
+xorBytes-append (a ∷ s) [] u v h = absurd (omega arith)
+xorBytes-append (a ∷ s) (b ∷ t) u v h = rw (xorBytes-append s t u v (omega arith))
+
+-- The front of a string of two parts.
+pub take-append : (n : ℕ) (s t : List ℕ) → take n (s ++ t) ≡ take n s ++ take (n - length s) t
+take-append n [] t = rw (take-nil n, sub-zero)
+take-append zero (a ∷ s) t = rw zero-sub
+take-append (suc n) (a ∷ s) t = rw (take-append n s t, suc-sub-suc)
+
 -- The first n entries, 0 past the end: what a block is made of.
 unfoldable pub padded : ℕ → List ℕ → List ℕ
 padded zero s = []
@@ -136,6 +155,12 @@ unfolding padded
 padded-add zero n s = rw zero-add
 padded-add (suc m) n s = rw (suc-add, padded-add m n (drop 1 s), drop-drop m 1 s, one-add)
 
+pub take-padded : (n : ℕ) (s : List ℕ) → length s ≤ n → take (length s) (padded n s) ≡ s
+unfolding padded
+take-padded zero s h = rw (take-nil (length s)) (take-all 0 s h)
+take-padded (suc n) [] h = refl
+take-padded (suc n) (a ∷ s) h = ap (λ (t : List ℕ). a ∷ t) (take-padded n s (le-of-suc-le-suc h))
+
 padded-nil : (n : ℕ) → replicate n 0 ≡ padded n []
 unfolding padded
 padded-nil zero = refl
@@ -150,6 +175,10 @@ take-zeros (suc n) (a ∷ s) = rw (suc-sub-suc, take-zeros n s)
 pub block-padded : (s : List ℕ) → block s ≡ number (padded 16 s)
 unfolding block pad
 block-padded s = ap number (take-zeros 16 s)
+
+pub block-first : (s : List ℕ) → 16 ≤ length s → block s ≡ number (take 16 s)
+unfolding block pad
+block-first s h = ap number (rw (length-take-le 16 s h, append-nil))
 
 pub block-whole : (s : List ℕ) → length s ≡ 16 → block s ≡ number s
 unfolding block pad

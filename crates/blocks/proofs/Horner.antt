@@ -17,6 +17,12 @@ module _ {k one : ℕ} {_·_ : ℕ → ℕ → ℕ} (ring : Ring k one _·_) whe
   power-below R zero h = ring .one-below
   power-below R (suc n) h = ring .below R (power one _·_ R n) h
 
+  pub power-sum-below : (R : ℕ) → R < 2 ^ k → (As : List ℕ) → Below (2 ^ k) As → powerSum one _·_ R As < 2 ^ k
+  unfolding powerSum
+  power-sum-below R hR [] h = pow-pos k
+  power-sum-below R hR (A ∷ As) h =
+      xor-below k (ring .below A (power one _·_ R (suc (length As))) (h 0)) (power-sum-below R hR As (λ i. h (suc i)))
+
   -- what there is gets one power of R for each block that follows
   horner-from : (R : ℕ) → R < 2 ^ k → (sum : ℕ) (As : List ℕ) → sum < 2 ^ k → Below (2 ^ k) As
       → horner _·_ R sum As ≡ sum · power one _·_ R (length As) ⊕ powerSum one _·_ R As

@@ -2,6 +2,7 @@ pub mod Xor
 pub mod Bytes
 pub mod Place
 pub mod One
+pub mod Counter
 pub mod Table
 pub mod Filled
 pub mod Arrays
@@ -12,6 +13,7 @@ pub mod Steps
 pub mod Inverse
 pub mod Substitution
 pub mod Permutations
+pub mod Pass
 pub mod Columns
 pub mod Rounds
 pub mod Words

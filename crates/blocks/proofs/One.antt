@@ -2,13 +2,16 @@
 -- Assumes nothing.
 use Prim.Native.Nat.{ℕ, zero, suc, _^_, _<_}
 use mathlib.Core.Path.{_≡_, refl, sym, ap, _∙_}
-use mathlib.Core.Bool.{Bool, true, false}
-use mathlib.Core.List.{List}
+use mathlib.Core.Bool.{Bool, true, false, _&&_, false≢true}
+use mathlib.Core.List.{List, [], _∷_}
 use mathlib.Core.Logic.{⊎-elim}
 use native.Mathlib.Nat.{eq-or-lt-of-le, le-of-suc-le-suc, not-suc-le-zero, mod-eq-of-lt}
 use native.Mathlib.Omega.{arith}
-use Rattle.blocks.specs.Bytes.{OfLength, number, bytes}
-use Rattle.blocks.specs.One.{ExactlyOne, tally, count}
+use borrow.Author.Tests.{eqb-true, eq-eqb}
+use lib.Dec.{eqb}
+use Rattle.blocks.specs.Bytes.{OfLength, number, bytes, equal}
+use Rattle.blocks.specs.One.{ExactlyOne, tally, count, OnePreimage}
+use Rattle.blocks.specs.Permutation.{Cipher}
 use Rattle.blocks.proofs.Bytes.{length-bytes, bytes-below, number-below, number-bytes, bytes-number}
 
 tally-none : (t : Bool) → (t ≡ true → ⊥) → tally t ≡ 0
@@ -50,3 +53,32 @@ count-strings test n s one =
       only = λ v l t. sym (mod-eq-of-lt l) ∙ sym (number-bytes n v)
           ∙ ap number (one .only (bytes n v) (length-bytes n v, bytes-below n v) t);
     })
+
+-- Equal strings pass the test, and no others.
+pub equal-refl : (s : List ℕ) → equal s s ≡ true
+unfolding equal
+equal-refl [] = refl
+equal-refl (a ∷ s) = rw (eq-eqb a a refl, equal-refl s)
+
+both : (a b : Bool) → (a && b) ≡ true → (a ≡ true) × (b ≡ true)
+both true b e = (refl, e)
+both false b e = absurd (false≢true e)
+
+pub equal-true : (s t : List ℕ) → equal s t ≡ true → s ≡ t
+unfolding equal
+equal-true [] [] e = refl
+equal-true [] (b ∷ t) e = absurd (false≢true e)
+equal-true (a ∷ s) [] e = absurd (false≢true e)
+equal-true (a ∷ s) (b ∷ t) e =
+    let parts = both (eqb a b) (equal s t) e in
+    rw (eqb-true a b (parts .0), equal-true s t (parts .1))
+
+-- A cipher of n bytes sends exactly one string of n bytes to each.
+pub one-preimage : {n : ℕ} {f g : List ℕ → List ℕ} → Cipher n f g → (s : List ℕ) → OfLength n s → OnePreimage n f s (g s)
+one-preimage {n} {f} {g} c s h =
+    let only : ExactlyOne (OfLength n) (λ t. equal (f t) s) (g s) = record {
+      among = c .inverse-keeps s h;
+      passes = rw (c .undoes s h) (equal-refl s);
+      only = λ t k e. sym (c .undone t k) ∙ ap g (equal-true (f t) s e);
+    } in
+    record { one = only; counted = count-strings (λ t. equal (f t) s) n (g s) only }

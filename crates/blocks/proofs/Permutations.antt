@@ -20,6 +20,16 @@ then {f} {f′} {g} {g′} p q = record {
   undoes = λ a h. ap g (p .undoes (g′ a) (q .inverse-keeps a h)) ∙ q .undoes a h;
 }
 
+-- Functions that agree with those of a permutation are one.
+pub agreeing : {A : Type 0} {P : A → Type 0} {f f′ g g′ : A → A} → ((a : A) → P a → f a ≡ f′ a) → ((a : A) → P a → g a ≡ g′ a)
+    → Permutation P f′ g′ → Permutation P f g
+agreeing {f} {f′} {g} {g′} ef eg p = record {
+  keeps = λ a h. rw (ef a h) (p .keeps a h);
+  inverse-keeps = λ a h. rw (eg a h) (p .inverse-keeps a h);
+  undone = λ a h. rw (ef a h, eg (f′ a) (p .keeps a h)) (p .undone a h);
+  undoes = λ a h. rw (eg a h, ef (g′ a) (p .inverse-keeps a h)) (p .undoes a h);
+}
+
 -- The 16 bytes of a block are carried there, and back again: half of `on-blocks`.
 bytes-are : (b : ℕ) → OfLength 16 (bytes 16 b)
 bytes-are b = (length-bytes 16 b, bytes-below 16 b)

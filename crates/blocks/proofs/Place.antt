@@ -1,14 +1,14 @@
 -- Bytes at a place of a string: what `Block::read` and `Block::write` go by.
 -- Assumes nothing.
-use Prim.Native.Nat.{ℕ, zero, suc, _+_, _*_, _/_, _%_, _^_, _≤_, _<_}
-use mathlib.Core.Path.{_≡_}
+use Prim.Native.Nat.{ℕ, zero, suc, _+_, _-_, _*_, _/_, _%_, _^_, _≤_, _<_}
+use mathlib.Core.Path.{_≡_, ap}
 use mathlib.Core.List.{List, [], _∷_, _++_, append-nil}
 use native.Mathlib.Nat.{sub-zero, zero-add, add-suc, pow-suc, div-div-eq-div-mul, add-zero, zero-sub, suc-sub-suc, suc-add, pow-le-pow-right, lt-of-lt-of-le}
 use native.Mathlib.Numerals.{add-one}
 use native.Mathlib.Omega.{arith}
 use lib.Arith.{digits-div}
-use lib.ListN.{length, getD, drop, set, take-append-drop, length-set}
-use lib.Seq.{getD-drop, drop-drop, take-nil, take-all, drop-nil, drop-length, set-out, set-comm}
+use lib.ListN.{length, getD, take, drop, set, take-append-drop, length-append, length-drop, length-set, drop-of-length-le}
+use lib.Seq.{getD-drop, drop-drop, drop-at, take-nil, take-all, length-take-le, drop-nil, drop-length, set-out, set-comm}
 use Rattle.blocks.specs.Bytes.{Bytes, number, bytes, block, overwrite}
 use Rattle.blocks.proofs.Bytes.{bytes-append, bytes-above, number-below, number-append, padded, length-padded, padded-below, padded-suc, padded-add, block-padded, below-drop}
 
@@ -45,6 +45,10 @@ pub overwrite-whole : (t s : List ℕ) → length t ≡ length s → overwrite 0
 unfolding overwrite
 overwrite-whole t s h =
     rw (sub-zero, zero-add, h, drop-length s, append-nil) (take-all (length s) t (omega arith))
+
+pub overwrite-head : (t s : List ℕ) → length t ≤ length s → overwrite 0 t s ≡ t ++ drop (length t) s
+unfolding overwrite
+overwrite-head t s h = rw (sub-zero, zero-add, take-all (length s) t h)
 
 overwrite-empty : (i : ℕ) (t : List ℕ) → overwrite i t [] ≡ []
 unfolding overwrite
@@ -106,3 +110,41 @@ overwrite-next k n w s = rw (add-one k, add-one n, overwrite-cons k (w / 256 ^ n
 
 pub rest-next : (n w : ℕ) → w / 256 ^ (n + 1) ≡ w / 256 ^ n / 256
 rest-next n w = rw (add-one, pow-suc, div-div-eq-div-mul)
+
+-- What is in front of the end of what was written, and what is behind it.
+pub take-overwrite : (i : ℕ) (t s : List ℕ) → take (i + length t) (overwrite i t s) ≡ take i s ++ take (length s - i) t
+take-overwrite i t [] = rw (overwrite-empty i t, take-nil (i + length t), take-nil i, zero-sub i)
+take-overwrite zero [] (a ∷ s) = rw take-nil
+take-overwrite zero (b ∷ t) (a ∷ s) =
+    let h = take-overwrite zero t s in
+    rw (overwrite-front b t a s, zero-add, sub-zero) (ap (λ (l : List ℕ). b ∷ l) (simp (zero-add, sub-zero) at h))
+take-overwrite (suc i) t (a ∷ s) = rw (overwrite-skip i t a s, suc-add, take-overwrite i t s, suc-sub-suc)
+
+pub drop-overwrite : (i : ℕ) (t s : List ℕ) → drop (i + length t) (overwrite i t s) ≡ drop (i + length t) s
+drop-overwrite i t [] = rw overwrite-empty
+drop-overwrite zero [] (a ∷ s) = rw overwrite-nil
+drop-overwrite zero (b ∷ t) (a ∷ s) =
+    let h = drop-overwrite zero t s in
+    rw (overwrite-front b t a s, zero-add) (rw zero-add at h)
+drop-overwrite (suc i) t (a ∷ s) = rw (overwrite-skip i t a s, suc-add, drop-overwrite i t s)
+
+-- The part behind the first w bytes, lent by itself: what it is, and the whole when it comes back as t.
+module _ (w : ℕ) (s t : List ℕ) (h : w ≤ length s) (l : length t ≡ length s - w) where
+  pub part-behind : take (length s - w) (drop w s) ≡ drop w s
+  part-behind = take-all (length s - w) (drop w s) (rw length-drop (omega arith))
+
+  pub put-back : take w s ++ (t ++ drop (length s - w) (drop w s)) ≡ take w s ++ t
+  put-back =
+      let short : length (drop w s) ≤ length s - w = rw length-drop (omega arith) in
+      let none : drop (length s - w) (drop w s) ≡ [] = drop-of-length-le (drop w s) short in
+      rw (none, append-nil t)
+
+  pub behind-back : take (length (take w s ++ t) - w) (drop w (take w s ++ t)) ≡ t
+  behind-back =
+      rw (drop-at (take w s) t w (length-take-le w s h), length-append, length-take-le w s h)
+      (take-all (w + length t - w) t (omega arith))
+
+  pub overwrite-back : (u : List ℕ) → length u ≡ w → overwrite 0 u (take w s ++ t) ≡ u ++ t
+  overwrite-back u e =
+      rw (overwrite-head u (take w s ++ t) (rw (length-append, length-take-le w s h, e) (omega arith)), e)
+      (ap (λ (r : List ℕ). u ++ r) (drop-at (take w s) t w (length-take-le w s h)))

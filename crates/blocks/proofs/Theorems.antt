@@ -6,6 +6,7 @@ use Rattle.blocks.proofs.Bytes.{number-bytes, bytes-number, bytes-xor}
 use Rattle.blocks.proofs.Ring as Ring
 use Rattle.blocks.proofs.Horner as Horner
 use Rattle.blocks.proofs.One as One
+use Rattle.blocks.proofs.Counter.{counter-cipher}
 use Rattle.blocks.proofs.Inverse.{inverse-zero, inverse-product}
 use Rattle.blocks.proofs.Substitution.{box-permutation}
 use Rattle.blocks.proofs.Rounds as Rounds
@@ -27,6 +28,8 @@ theorems = record {
   horner-rule = λ k one _·_ ring. Horner.horner-rule ring;
   count-numbers = One.count-one;
   count-strings = One.count-strings;
+  one-preimage = λ n f g. One.one-preimage;
+  counter-mode = counter-cipher;
   inverse-of-byte = inverse-product;
   inverse-of-zero = inverse-zero;
   box-permutation = box-permutation;

@@ -2,7 +2,9 @@
 -- read first byte highest, so that binary digit i is the coefficient of the power i of x.
 use Prim.Native.Nat.{ℕ, zero, suc, _+_, _-_, _*_, _/_, _%_, _^_, _<_}
 use mathlib.Core.Path.{_≡_}
+use mathlib.Core.Bool.{Bool, true, false, _&&_}
 use mathlib.Core.List.{List, [], _∷_, _++_}
+use lib.Dec.{eqb}
 use lib.ListN.{length, getD, take, drop, replicate}
 
 -- Every entry is below n.
@@ -43,6 +45,18 @@ cut (suc m) s = block s ∷ cut m (drop 16 s)
 -- The blocks of a string, the last padded: 01's P_1 to P_m, "where the last may hold 1 to 16 bytes".
 unfoldable pub blocks : List ℕ → List ℕ
 blocks s = cut ((length s + 15) / 16) s
+
+-- Blocks as a string, 16 bytes each.
+unfoldable pub string : List ℕ → List ℕ
+string [] = []
+string (b ∷ bs) = bytes 16 b ++ string bs
+
+-- Whether two strings are the same.
+unfoldable pub equal : List ℕ → List ℕ → Bool
+equal [] [] = true
+equal [] (b ∷ t) = false
+equal (a ∷ s) [] = false
+equal (a ∷ s) (b ∷ t) = eqb a b && equal s t
 
 -- A string with t written over it from place i on, as far as it reaches.
 unfoldable pub overwrite : ℕ → List ℕ → List ℕ → List ℕ

@@ -2,7 +2,9 @@ pub mod Xor
 pub mod Bytes
 pub mod Field
 pub mod One
+pub mod Counter
 pub mod Permutation
 pub mod Aes
 pub mod Block
+pub mod Key
 pub mod Theorems

@@ -1,7 +1,9 @@
 -- "Exactly one", said twice: as a record, and as a count.
-use Prim.Native.Nat.{ℕ, zero, suc, _+_}
+use Prim.Native.Nat.{ℕ, zero, suc, _+_, _^_}
 use mathlib.Core.Path.{_≡_}
 use mathlib.Core.Bool.{Bool, true, false}
+use mathlib.Core.List.{List}
+use Rattle.blocks.specs.Bytes.{OfLength, bytes, equal}
 
 -- Among those that have P, a passes the test, and each that passes is a.
 pub record ExactlyOne {A : Type 0} (P : A → Type 0) (test : A → Bool) (a : A) : Type 0 where
@@ -18,3 +20,8 @@ tally false = 0
 unfoldable pub count : (ℕ → Bool) → ℕ → ℕ
 count test zero = 0
 count test (suc n) = tally (test n) + count test n
+
+-- Exactly one string of n bytes is sent to s by f, and it is t; counted over all strings of n bytes, there is 1.
+pub record OnePreimage (n : ℕ) (f : List ℕ → List ℕ) (s t : List ℕ) : Type 0 where
+  pub one : ExactlyOne (OfLength n) (λ u. equal (f u) s) t
+  pub counted : count (λ v. equal (f (bytes n v)) s) (256 ^ n) ≡ 1

@@ -1,6 +1,8 @@
--- Permutations with their inverses: of bytes, of states, of blocks.
+-- Permutations with their inverses: of bytes, of states, of blocks, of boards.
 use Prim.Native.Nat.{ℕ, _^_, _<_}
 use mathlib.Core.Path.{_≡_}
+use mathlib.Core.List.{List}
+use Rattle.blocks.specs.Bytes.{OfLength}
 
 -- f and g keep what has P, and each undoes the other there.
 pub record Permutation {A : Type 0} (P : A → Type 0) (f g : A → A) : Type 0 where
@@ -20,3 +22,7 @@ pub record BlockCipher : Type 0 where
 -- 01, "A block permutation is a function from blocks to blocks that has an inverse: each of the two undoes the other on every block".
 abbrev pub BlockPermutation : BlockCipher → Type 0
 BlockPermutation c = Permutation Block (c .E) (c .D)
+
+-- A cipher of n bytes: it makes strings of n bytes from strings of n bytes, and so does its inverse.
+abbrev pub Cipher : ℕ → (List ℕ → List ℕ) → (List ℕ → List ℕ) → Type 0
+Cipher n f g = Permutation (OfLength n) f g

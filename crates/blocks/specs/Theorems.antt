@@ -7,8 +7,9 @@ use lib.ListN.{length}
 use Rattle.blocks.specs.Xor.{_⊕_, xorBytes}
 use Rattle.blocks.specs.Bytes.{Below, Bytes, OfLength, number, bytes}
 use Rattle.blocks.specs.Field.{timesX, product, _•_, power, powerSum, horner, Ring}
-use Rattle.blocks.specs.One.{ExactlyOne, count}
-use Rattle.blocks.specs.Permutation.{Permutation, Block, BlockPermutation}
+use Rattle.blocks.specs.One.{ExactlyOne, count, OnePreimage}
+use Rattle.blocks.specs.Permutation.{Permutation, Block, BlockPermutation, Cipher}
+use Rattle.blocks.specs.Counter.{maskedBytes}
 use Rattle.blocks.specs.Aes.{Byte, _·_, inverse, box, invBox, State, subBytes, invSubBytes, shiftRows, invShiftRows, mixColumns, invMixColumns, addRoundKey, cipher, invCipher, encipher, decipher, aes}
 
 pub record Theorems : Type 0 where
@@ -33,6 +34,9 @@ pub record Theorems : Type 0 where
   -- Where exactly one passes a test the count is 1, of numbers below a bound and of strings of n bytes.
   pub count-numbers : (test : ℕ → Bool) (n a : ℕ) → ExactlyOne (λ v. v < n) test a → count test n ≡ 1
   pub count-strings : (test : List ℕ → Bool) (n : ℕ) (s : List ℕ) → ExactlyOne (OfLength n) test s → count (λ v. test (bytes n v)) (256 ^ n) ≡ 1
+  -- A cipher of n bytes sends exactly one string of n bytes to each; counter mode is one, and its own inverse.
+  pub one-preimage : (n : ℕ) (f g : List ℕ → List ℕ) → Cipher n f g → (s : List ℕ) → OfLength n s → OnePreimage n f s (g s)
+  pub counter-mode : (mask : ℕ → ℕ) (i n : ℕ) → Cipher n (maskedBytes mask i) (maskedBytes mask i)
   -- The bytes of AES have inverses: with its ring of bytes, they are a field.
   pub inverse-of-byte : (a : ℕ) → 0 < a → Byte a → a · inverse a ≡ 1
   pub inverse-of-zero : inverse 0 ≡ 0

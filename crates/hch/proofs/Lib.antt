@@ -1,0 +1,4 @@
+pub mod Call
+pub mod Steps
+pub mod Scheme
+pub mod Theorems

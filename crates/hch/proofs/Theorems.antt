@@ -1,0 +1,45 @@
+-- Every theorem of specs/Theorems.antt: the scheme's from its two passes, those for AES cited from them.
+-- Assumes nothing.
+use Prim.Native.Nat.{ℕ, _≤_}
+use mathlib.Core.List.{List}
+use lib.Dec.{lit<}
+use Rattle.blocks.specs.Bytes.{OfLength, number}
+use Rattle.blocks.specs.Field.{xTimes, keyedSum}
+use Rattle.blocks.specs.One.{OnePreimage}
+use Rattle.blocks.specs.Permutation.{Block, BlockCipher, BlockPermutation, Cipher}
+use Rattle.blocks.specs.Aes.{aes}
+use Rattle.blocks.proofs.Bytes.{number-below}
+use Rattle.blocks.proofs.One.{one-preimage}
+use Rattle.blocks.proofs.Ring.{x-below, ring-of-blocks}
+use Rattle.blocks.proofs.Horner.{power-sum-below}
+use Rattle.blocks.proofs.Theorems as Blocks
+use Rattle.hch.specs.Hch.{Parts, enciphered, deciphered}
+use Rattle.hch.specs.Theorems.{Theorems}
+use Rattle.hch.proofs.Scheme.{scheme-cipher}
+
+own-parts : (c : BlockCipher) → BlockPermutation c → Parts (c .E) (c .D) xTimes keyedSum
+own-parts c p = record {
+  permutation = p;
+  step-keeps = λ a h. x-below 128 0x87 (lit< tt) a;
+  sum-keeps = λ R As hR h. power-sum-below ring-of-blocks R hR As h;
+}
+
+tweak-block : (tweak : List ℕ) → OfLength 16 tweak → Block (number tweak)
+tweak-block tweak h = rw (h .0) at (number-below tweak (h .1))
+
+hch-cipher : (key tweak : List ℕ) (n : ℕ) → OfLength 16 tweak → 16 ≤ n → Cipher n (enciphered key tweak) (deciphered key tweak)
+unfolding enciphered deciphered
+hch-cipher key tweak n h l = scheme-cipher (own-parts (aes key) (Blocks.theorems .aes-permutation key)) (number tweak) n (tweak-block tweak h) l
+
+pub exactly-one-board : (key tweak : List ℕ) (n : ℕ) → OfLength 16 tweak → 16 ≤ n
+    → (C : List ℕ) → OfLength n C → OnePreimage n (enciphered key tweak) C (deciphered key tweak C)
+exactly-one-board key tweak n h l C k = one-preimage (hch-cipher key tweak n h l) C k
+
+pub theorems : Theorems
+theorems = record {
+  scheme-cipher = λ E D xTimes sum. scheme-cipher;
+  scheme-exactly-one = λ E D xTimes sum parts T n h l. one-preimage (scheme-cipher parts T n h l);
+  own-parts = own-parts;
+  hch-cipher = hch-cipher;
+  exactly-one-board = exactly-one-board;
+}

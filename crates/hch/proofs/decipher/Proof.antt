@@ -1,0 +1,87 @@
+-- The tests, and the work where they are passed. What is left is then the one board that enciphers to what was lent.
+-- Assumes nothing.
+use mathlib.Core.Path.{_≡_, refl, sym, _∙_}
+use borrow.Author.Needs.{needs}
+use denote.Ref.{now}
+use lib.ListN.{length}
+use Rattle.blocks.specs.Aes.{aes}
+use Rattle.blocks.proofs.Bytes.{block-whole}
+use Rattle.hch.specs.Hch.{deciphered}
+use Rattle.hch.proofs.Call.{admitted, not-done, refused}
+use Rattle.hch.proofs.Theorems.{exactly-one-board}
+use Rattle.hch.proofs.decipher.Statement.{statement}
+use Rattle.hch.proofs.decipher.Tie as tie
+
+judge-requires : tie.Need-judge-requires
+judge-requires c κs = search needs
+
+enum-told : tie.Need-enum-told
+enum-told c = search needs
+
+new-requires : tie.Need-new-requires
+new-requires c κs = search needs
+
+read-requires : tie.Need-read-requires
+read-requires c κs = search needs
+
+decipher-board-requires : tie.Need-decipher-board-requires
+decipher-board-requires c κs =
+    let told = c .before .before .before in
+    let judged = told .before .before in
+    let args = judged .before .before .before .before .before .args in
+    let a = admitted (now (args .key)) (now (args .tweak)) (now (args .«data»)) (sym (judged .judge .ensures) ∙ told .enum-told .given .1) in
+    (a .at-least, a .at-most)
+
+same-length : tie.Need-same-length
+same-length c = search needs
+
+returns : tie.Need-returns
+unfolding deciphered aes
+returns c =
+    let b = c .before .before in
+    let read = b .before .before in
+    let new = read .before in
+    let told = new .before in
+    let judged = told .before .before in
+    let lent = judged .before .before in
+    let args = lent .before .before .before .args in
+    let done = told .enum-told .given .1 in
+    let a = admitted (now (args .key)) (now (args .tweak)) (now (args .«data»)) (sym (judged .judge .ensures) ∙ done) in
+    let left : b .decipher-board .last .1 .1 .0 ≡ deciphered (now (args .key)) (now (args .tweak)) (now (args .«data»)) =
+    rw (b .decipher-board .ensures, new .new .ensures, read .read .ensures, block-whole (now (args .tweak)) (a .tweak-length)) in (
+      judged .judge .ensures,
+      (
+        rw (done, left),
+        λ e.
+            rw left
+            (exactly-one-board (now (args .key)) (now (args .tweak)) (length (now (args .«data»)))
+            (a .tweak-length, λ i. lent .before .shared-slice-known2 .given i .fits) (a .at-least) (now (args .«data»))
+            (refl, λ i. lent .slice-known .given i .fits)),
+      ),
+    )
+
+same-length-2 : tie.Need-same-length-2
+same-length-2 c = search needs
+
+returns-2 : tie.Need-returns-2
+returns-2 c = (
+  c .before .judge .ensures,
+  (
+    refused (c .before .judge .result) _ _ (c .match .keys2),
+    λ e. absurd (not-done (c .before .judge .result) (c .match .keys2) e),
+  ),
+)
+
+pub decipher-spec : {M : Type 1} → statement M
+decipher-spec =
+    tie.close
+    (tie.spec
+    judge-requires
+    enum-told
+    new-requires
+    read-requires
+    decipher-board-requires
+    same-length
+    returns
+    same-length-2
+    returns-2)

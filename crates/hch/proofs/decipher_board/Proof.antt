@@ -1,0 +1,102 @@
+-- The calls, one after another, are the right side of Table II.
+-- Assumes nothing.
+use borrow.Author.Needs.{needs}
+use denote.Ref.{now}
+use Rattle.blocks.specs.Field.{xTimes, keyedSum}
+use Rattle.blocks.specs.Block.{value}
+use Rattle.blocks.specs.Key.{under}
+use Rattle.hch.proofs.Steps.{deciphering}
+use Rattle.hch.proofs.decipher_board.Statement.{statement}
+use Rattle.hch.proofs.decipher_board.Tie as tie
+
+encipher-requires : tie.Need-encipher-requires
+encipher-requires c κs = search needs
+
+mul-bin : tie.Need-mul-bin
+mul-bin c = search needs
+
+bin-requires : tie.Need-bin-requires
+bin-requires c κs = search needs
+
+xor-requires : tie.Need-xor-requires
+xor-requires c κs = search needs
+
+encipher-requires-2 : tie.Need-encipher-requires-2
+encipher-requires-2 c κs = search needs
+
+times-x-requires : tie.Need-times-x-requires
+times-x-requires c κs = search needs
+
+read-requires : tie.Need-read-requires
+read-requires c κs = search needs
+
+sub-hash : tie.Need-sub-hash
+sub-hash c = search needs
+
+part-hash-start : tie.Need-part-hash-start
+part-hash-start c = search needs
+
+part-hash-end : tie.Need-part-hash-end
+part-hash-end c = search needs
+
+hash-requires : tie.Need-hash-requires
+hash-requires c κs = search needs
+
+decipher-requires : tie.Need-decipher-requires
+decipher-requires c κs = search needs
+
+xor-requires-2 : tie.Need-xor-requires-2
+xor-requires-2 c κs = search needs
+
+finish-requires : tie.Need-finish-requires
+finish-requires c κs = c .before .before .before .before .before .before .before .before .before .before .before .before .before .before .pre .0
+
+same-length : tie.Need-same-length
+same-length c = search needs
+
+returns : tie.Need-returns
+returns c =
+    let f = c .before .before in
+    let x2 = f .before .before in
+    let d = x2 .before in
+    let h = d .before in
+    let r = h .before .before .before in
+    let tx = r .before .before in
+    let e2 = tx .before in
+    let b = e2 .before .before in
+    let e = b .before in
+    let start = e .before .before in
+    rw (
+      f .finish .ensures,
+      x2 .xor2 .ensures,
+      d .decipher .ensures,
+      h .hash .ensures,
+      r .read .ensures,
+      tx .times-x .ensures,
+      e2 .encipher2 .ensures,
+      e2 .before .xor .ensures,
+      b .bin .ensures,
+      e .encipher .ensures,
+    )
+    (deciphering (under (start .args .key) .E) (under (start .args .key) .D) xTimes keyedSum (value (start .args .tweak)) (now (start .args .«data»)) (start .pre .0))
+
+pub decipher-board-spec : {M : Type 1} → statement M
+decipher-board-spec =
+    tie.close
+    (tie.spec
+    encipher-requires
+    mul-bin
+    bin-requires
+    xor-requires
+    encipher-requires-2
+    times-x-requires
+    read-requires
+    sub-hash
+    part-hash-start
+    part-hash-end
+    hash-requires
+    decipher-requires
+    xor-requires-2
+    finish-requires
+    same-length
+    returns)

@@ -1,0 +1,69 @@
+-- The tests, and the work where they are passed: the key expanded and the tweak read as a block.
+-- Assumes nothing.
+use mathlib.Core.Path.{sym, _∙_}
+use borrow.Author.Needs.{needs}
+use denote.Ref.{now}
+use Rattle.blocks.specs.Aes.{aes}
+use Rattle.blocks.proofs.Bytes.{block-whole}
+use Rattle.hch.specs.Hch.{enciphered}
+use Rattle.hch.proofs.Call.{admitted, refused}
+use Rattle.hch.proofs.encipher.Statement.{statement}
+use Rattle.hch.proofs.encipher.Tie as tie
+
+judge-requires : tie.Need-judge-requires
+judge-requires c κs = search needs
+
+enum-told : tie.Need-enum-told
+enum-told c = search needs
+
+new-requires : tie.Need-new-requires
+new-requires c κs = search needs
+
+read-requires : tie.Need-read-requires
+read-requires c κs = search needs
+
+encipher-board-requires : tie.Need-encipher-board-requires
+encipher-board-requires c κs =
+    let told = c .before .before .before in
+    let judged = told .before .before in
+    let args = judged .before .before .before .before .before .args in
+    let a = admitted (now (args .key)) (now (args .tweak)) (now (args .«data»)) (sym (judged .judge .ensures) ∙ told .enum-told .given .1) in
+    (a .at-least, a .at-most)
+
+same-length : tie.Need-same-length
+same-length c = search needs
+
+returns : tie.Need-returns
+unfolding enciphered aes
+returns c =
+    let b = c .before .before in
+    let read = b .before .before in
+    let new = read .before in
+    let told = new .before in
+    let judged = told .before .before in
+    let args = judged .before .before .before .before .before .args in
+    let done = told .enum-told .given .1 in
+    let a = admitted (now (args .key)) (now (args .tweak)) (now (args .«data»)) (sym (judged .judge .ensures) ∙ done) in (
+      judged .judge .ensures,
+      rw (done, b .encipher-board .ensures, new .new .ensures, read .read .ensures, block-whole (now (args .tweak)) (a .tweak-length)),
+    )
+
+same-length-2 : tie.Need-same-length-2
+same-length-2 c = search needs
+
+returns-2 : tie.Need-returns-2
+returns-2 c = (c .before .judge .ensures, refused (c .before .judge .result) _ _ (c .match .keys2))
+
+pub encipher-spec : {M : Type 1} → statement M
+encipher-spec =
+    tie.close
+    (tie.spec
+    judge-requires
+    enum-told
+    new-requires
+    read-requires
+    encipher-board-requires
+    same-length
+    returns
+    same-length-2
+    returns-2)

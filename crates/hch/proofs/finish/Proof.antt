@@ -1,0 +1,71 @@
+-- The counter step on the part lent, the hash of the part that is back, and its write are Table II from I on.
+-- Assumes nothing.
+use borrow.Author.Needs.{needs}
+use denote.Ref.{now}
+use Rattle.blocks.specs.Field.{keyedSum}
+use Rattle.blocks.specs.Block.{value}
+use Rattle.blocks.specs.Key.{under}
+use Rattle.hch.proofs.Steps.{finished}
+use Rattle.hch.proofs.finish.Statement.{statement}
+use Rattle.hch.proofs.finish.Tie as tie
+
+encipher-requires : tie.Need-encipher-requires
+encipher-requires c κs = search needs
+
+sub-counter : tie.Need-sub-counter
+sub-counter c = search needs
+
+part-counter-start : tie.Need-part-counter-start
+part-counter-start c = search needs
+
+part-counter-end : tie.Need-part-counter-end
+part-counter-end c = search needs
+
+counter-requires : tie.Need-counter-requires
+counter-requires c κs = search needs
+
+sub-hash : tie.Need-sub-hash
+sub-hash c = search needs
+
+part-hash-start : tie.Need-part-hash-start
+part-hash-start c = search needs
+
+part-hash-end : tie.Need-part-hash-end
+part-hash-end c = search needs
+
+hash-requires : tie.Need-hash-requires
+hash-requires c κs = search needs
+
+write-requires : tie.Need-write-requires
+write-requires c κs = search needs
+
+same-length : tie.Need-same-length
+same-length c = search needs
+
+returns : tie.Need-returns
+returns c =
+    let w = c .before .before in
+    let h = w .before .before in
+    let k = h .before .before .before .before .before in
+    let e = k .before .before in
+    let args = e .before .before .args in
+    rw (w .write .ensures, h .hash .ensures, k .counter .ensures, e .encipher .ensures)
+    (finished (under (args .key) .E) keyedSum (value (args .r)) (value (args .q)) (value (args .i)) (value (args .first)) (now (args .«data»))
+    (e .before .before .pre))
+
+pub finish-spec : {M : Type 1} → statement M
+finish-spec =
+    tie.close
+    (tie.spec
+    encipher-requires
+    sub-counter
+    part-counter-start
+    part-counter-end
+    counter-requires
+    sub-hash
+    part-hash-start
+    part-hash-end
+    hash-requires
+    write-requires
+    same-length
+    returns)

@@ -1,0 +1,105 @@
+-- HCH of Chakraborty and Sarkar, source document 001, over any block cipher E with its inverse D, any step by x and any keyed sum of blocks.
+-- A block is a number below 2 ^ 128 and a message P is a string of bytes, 16 or more. The paper's n is 128.
+use Prim.Native.Nat.{ℕ, _*_, _%_, _^_}
+use mathlib.Core.List.{List, _++_}
+use lib.ListN.{length, take, drop}
+use Rattle.blocks.specs.Xor.{_⊕_}
+use Rattle.blocks.specs.Bytes.{Below, number, bytes, blocks, string}
+use Rattle.blocks.specs.Field.{xTimes, keyedSum}
+use Rattle.blocks.specs.Permutation.{Permutation, Block}
+use Rattle.blocks.specs.Counter.{masked}
+use Rattle.blocks.specs.Aes.{aes}
+
+-- 01, "bin(l) is l as a 16-byte big-endian number"; as a block it is l itself.
+unfoldable pub bin : ℕ → ℕ
+bin l = l % 2 ^ 128
+
+-- Formula (1): H with R and Q over A₁, A₂, …, Aₘ.
+module _ (sum : ℕ → List ℕ → ℕ) where
+  unfoldable pub H : ℕ → ℕ → ℕ → List ℕ → ℕ
+  H R Q A₁ A₂…Aₘ = Q ⊕ A₁ ⊕ sum R A₂…Aₘ
+
+-- Formula (3), where the paper's S_i is S ⊕ bin(i), as 01 has it.
+module _ (E : ℕ → ℕ) where
+  unfoldable pub Ctr : ℕ → List ℕ → List ℕ
+  Ctr S As = masked (λ i. E (S ⊕ bin i)) 1 As
+
+-- Table II, left, line by line. P₂…Mₘ and the like are lists of blocks, P₂…Pₘ and C₂…Cₘ the bytes behind the first block.
+module _ (E xTimes : ℕ → ℕ) (sum : ℕ → List ℕ → ℕ) where
+  unfoldable pub encipher : ℕ → List ℕ → List ℕ
+  encipher T P =
+      let P₁ = number (take 16 P) in
+      let P₂…Pₘ = drop 16 P in
+      -- 1. R = E(T); Q = E(R ⊕ bin(l)), with the length l in bits
+      let R = E T in
+      let Q = E (R ⊕ bin (8 * length P)) in
+      -- 2. Mₘ = pad(Pₘ)
+      let P₂…Mₘ = blocks P₂…Pₘ in
+      -- 3. M₁ = H with R and Q over P₁, …, Pₘ₋₁, Mₘ
+      let M₁ = H sum R Q P₁ P₂…Mₘ in
+      -- 4. U₁ = E(M₁); I = M₁ ⊕ U₁; S = E(I)
+      let U₁ = E M₁ in
+      let I = M₁ ⊕ U₁ in
+      let S = E I in
+      -- 5. C₂, …, Cₘ₋₁, Dₘ = Ctr with S over P₂, …, Pₘ₋₁, Mₘ
+      let C₂…Dₘ = Ctr E S P₂…Mₘ in
+      -- 6. Cₘ = drop(Dₘ), to the length of Pₘ; Uₘ = pad(Cₘ)
+      let C₂…Cₘ = take (length P₂…Pₘ) (string C₂…Dₘ) in
+      let C₂…Uₘ = blocks C₂…Cₘ in
+      -- 7. C₁ = H with R and xQ over U₁, C₂, …, Cₘ₋₁, Uₘ
+      let C₁ = H sum R (xTimes Q) U₁ C₂…Uₘ in
+      -- 8. C₁, …, Cₘ
+      bytes 16 C₁ ++ C₂…Cₘ
+
+-- Table II, right, line by line.
+module _ (E D xTimes : ℕ → ℕ) (sum : ℕ → List ℕ → ℕ) where
+  unfoldable pub decipher : ℕ → List ℕ → List ℕ
+  decipher T C =
+      let C₁ = number (take 16 C) in
+      let C₂…Cₘ = drop 16 C in
+      -- 1. R = E(T); Q = E(R ⊕ bin(l)), with the length l in bits
+      let R = E T in
+      let Q = E (R ⊕ bin (8 * length C)) in
+      -- 2. Uₘ = pad(Cₘ)
+      let C₂…Uₘ = blocks C₂…Cₘ in
+      -- 3. U₁ = H with R and xQ over C₁, …, Cₘ₋₁, Uₘ
+      let U₁ = H sum R (xTimes Q) C₁ C₂…Uₘ in
+      -- 4. M₁ = D(U₁); I = M₁ ⊕ U₁; S = E(I)
+      let M₁ = D U₁ in
+      let I = M₁ ⊕ U₁ in
+      let S = E I in
+      -- 5. P₂, …, Pₘ₋₁, Vₘ = Ctr with S over C₂, …, Cₘ₋₁, Uₘ
+      let P₂…Vₘ = Ctr E S C₂…Uₘ in
+      -- 6. Pₘ = drop(Vₘ), to the length of Cₘ; Mₘ = pad(Pₘ)
+      let P₂…Pₘ = take (length C₂…Cₘ) (string P₂…Vₘ) in
+      let P₂…Mₘ = blocks P₂…Pₘ in
+      -- 7. P₁ = H with R and Q over M₁, P₂, …, Pₘ₋₁, Mₘ
+      let P₁ = H sum R Q M₁ P₂…Mₘ in
+      -- 8. P₁, …, Pₘ
+      bytes 16 P₁ ++ P₂…Pₘ
+
+-- What the theorems ask of the parts: a block permutation, a step and a sum that keep blocks.
+pub record Parts (E D xTimes : ℕ → ℕ) (sum : ℕ → List ℕ → ℕ) : Type 0 where
+  pub permutation : Permutation Block E D
+  pub step-keeps : (a : ℕ) → Block a → Block (xTimes a)
+  pub sum-keeps : (R : ℕ) (As : List ℕ) → Block R → Below (2 ^ 128) As → Block (sum R As)
+
+-- ---- HCH with AES: 01's field, the sum of blocks times powers, AES under the key
+
+unfoldable pub enciphered : List ℕ → List ℕ → List ℕ → List ℕ
+enciphered key tweak P = encipher (aes key .E) xTimes keyedSum (number tweak) P
+
+unfoldable pub deciphered : List ℕ → List ℕ → List ℕ → List ℕ
+deciphered key tweak C = decipher (aes key .E) (aes key .D) xTimes keyedSum (number tweak) C
+
+-- ---- what else the contracts of the code cite
+
+-- Steps 5 and 6 on bytes.
+unfoldable pub ctrBytes : (E : ℕ → ℕ) → ℕ → List ℕ → List ℕ
+ctrBytes E S s = take (length s) (string (Ctr E S (blocks s)))
+
+-- From I on, which is the same both ways: Q is the one of step 7, A₁ its first block, and s what stands behind the first 16 bytes.
+unfoldable pub fromI : (E : ℕ → ℕ) (sum : ℕ → List ℕ → ℕ) (R Q I A₁ : ℕ) → List ℕ → List ℕ
+fromI E sum R Q I A₁ s =
+    let t = ctrBytes E (E I) s in
+    bytes 16 (H sum R Q A₁ (blocks t)) ++ t

@@ -1,0 +1,3 @@
+pub mod Hch
+pub mod Call
+pub mod Theorems

@@ -1,0 +1,152 @@
+// HCH of Chakraborty and Sarkar over AES, on lent bytes.
+ghost use Prim.Native.Nat.{_+_, _*_, _/_, _≤_};
+ghost use mathlib.Core.Path.{_≡_};
+ghost use mathlib.Core.List.{_++_};
+ghost use lib.ListN.{length, drop};
+ghost use Rattle.blocks.specs.Xor.{_⊕_};
+ghost use Rattle.blocks.specs.Bytes.{bytes, block, blocks, overwrite};
+ghost use Rattle.blocks.specs.Field.{xTimes, keyedSum};
+ghost use Rattle.blocks.specs.Block.{value};
+ghost use Rattle.blocks.specs.Key.{under};
+ghost use Rattle.hch.specs.Hch.{bin, H as hash, ctrBytes, fromI, encipher, decipher, enciphered, deciphered};
+ghost use Rattle.hch.specs.Call.{numberOf, answerOf, leftBy, ExactlyOneBoard};
+use blocks::aes::ExpandedKey;
+use blocks::block::Block;
+use blocks::field;
+
+// What a call answers: that it was done, or why it was not.
+pub enum Answer {
+    Done,
+    KeyLength,
+    TweakLength,
+    TooShort,
+    TooLong,
+}
+
+impl Answer {
+    // 01's number of a refusal, and 0 for a call that was done.
+    pub fn number(self) -> u32
+        ensures { λ r. ⌜ r ≡ numberOf self ⌝ }
+    {
+        match self {
+            Answer::Done => 0,
+            Answer::KeyLength => 1,
+            Answer::TweakLength => 2,
+            Answer::TooShort => 3,
+            Answer::TooLong => 4,
+        }
+    }
+}
+
+// The tests of a call, in 01's order.
+fn judge(key: &[u8], tweak: &[u8], data: &[u8]) -> Answer
+    ensures { λ r. ⌜ r ≡ answerOf (now (key .entry)) (now (tweak .entry)) (now («data» .entry)) ⌝ }
+{
+    if key.len() != 16 {
+        return Answer::KeyLength;
+    }
+    if tweak.len() != 16 {
+        return Answer::TweakLength;
+    }
+    if data.len() < 16 {
+        return Answer::TooShort;
+    }
+    if data.len() > 4096 {
+        return Answer::TooLong;
+    }
+    Answer::Done
+}
+
+// A number as a block.
+fn bin(n: usize) -> Block
+    ensures { λ r. ⌜ value r ≡ bin n ⌝ }
+{
+    Block {
+        hi: 0,
+        lo: n as u64,
+    }
+}
+
+// Formula (1): the first block by itself, the others where they are lent.
+fn hash(r: Block, q: Block, first: Block, rest: &[u8]) -> Block
+    ensures { λ x. ⌜ value x ≡ hash keyedSum (value r) (value q) (value first) (blocks (now (rest .entry))) ⌝ }
+{
+    q.xor(first).xor(field::power_sum(r, rest))
+}
+
+// Adds to the block at `at` what formula (3) adds to the one of that number, cut where `data` ends.
+fn mask(key: ExpandedKey, s: Block, data: &mut [u8], at: usize)
+    ensures { λ _. ⌜ now («data» .exit) ≡ overwrite at (bytes 16 (block (drop at (now («data» .entry))) ⊕ under key .E (value s ⊕ bin (at / 16 + 1)))) (now («data» .entry)) ⌝ }
+{
+    let pad = key.encipher(s.xor(bin(at / 16 + 1)));
+    Block::read(data, at).xor(pad).write(data, at);
+}
+
+// Formula (3) on the bytes behind the first block, the last block cut as it was.
+fn counter(key: ExpandedKey, s: Block, data: &mut [u8])
+    ensures { λ _. ⌜ now («data» .exit) ≡ ctrBytes (under key .E) (value s) (now («data» .entry)) ⌝ }
+{
+    let mut at = 0;
+    while at < data.len() {
+        mask(key, s, data, at);
+        at += 16;
+    }
+}
+
+// Table II from I on: the counter step on the bytes from 16 on, and the hash of what they are then, in the place of the first block.
+fn finish(key: ExpandedKey, r: Block, q: Block, i: Block, first: Block, data: &mut [u8])
+    requires { ⌜ 16 ≤ length (now «data») ⌝ }
+    ensures { λ _. ⌜ now («data» .exit) ≡ fromI (under key .E) keyedSum (value r) (value q) (value i) (value first) (drop 16 (now («data» .entry))) ⌝ }
+{
+    counter(key, key.encipher(i), &mut data[16..]);
+    hash(r, q, first, &data[16..]).write(data, 0);
+}
+
+// Table II, left.
+fn encipher_board(key: ExpandedKey, tweak: Block, data: &mut [u8])
+    requires { ⌜ (16 ≤ length (now «data»)) × (length (now «data») ≤ 4096) ⌝ }
+    ensures { λ _. ⌜ now («data» .exit) ≡ encipher (under key .E) xTimes keyedSum (value tweak) (now («data» .entry)) ⌝ }
+{
+    let r = key.encipher(tweak);
+    let q = key.encipher(r.xor(bin(8 * data.len())));
+    let m1 = hash(r, q, Block::read(data, 0), &data[16..]);
+    let u1 = key.encipher(m1);
+    finish(key, r, field::times_x(q), m1.xor(u1), u1, data);
+}
+
+// Table II, right.
+fn decipher_board(key: ExpandedKey, tweak: Block, data: &mut [u8])
+    requires { ⌜ (16 ≤ length (now «data»)) × (length (now «data») ≤ 4096) ⌝ }
+    ensures { λ _. ⌜ now («data» .exit) ≡ decipher (under key .E) (under key .D) xTimes keyedSum (value tweak) (now («data» .entry)) ⌝ }
+{
+    let r = key.encipher(tweak);
+    let q = key.encipher(r.xor(bin(8 * data.len())));
+    let u1 = hash(r, field::times_x(q), Block::read(data, 0), &data[16..]);
+    let m1 = key.decipher(u1);
+    finish(key, r, q, m1.xor(u1), m1, data);
+}
+
+// Enciphers the board in place, or refuses and leaves it as it is.
+pub fn encipher(key: &[u8], tweak: &[u8], data: &mut [u8]) -> Answer
+    ensures { λ r. ⌜ r ≡ answerOf (now (key .entry)) (now (tweak .entry)) (now («data» .entry)) ⌝ }
+    ensures { λ r. ⌜ now («data» .exit) ≡ leftBy r (enciphered (now (key .entry)) (now (tweak .entry)) (now («data» .entry))) (now («data» .entry)) ⌝ }
+{
+    let answer = judge(key, tweak, data);
+    if let Answer::Done = answer {
+        encipher_board(ExpandedKey::new(key), Block::read(tweak, 0), data);
+    }
+    answer
+}
+
+// Deciphers the board in place, or refuses and leaves it as it is.
+pub fn decipher(key: &[u8], tweak: &[u8], data: &mut [u8]) -> Answer
+    ensures { λ r. ⌜ r ≡ answerOf (now (key .entry)) (now (tweak .entry)) (now («data» .entry)) ⌝ }
+    ensures { λ r. ⌜ now («data» .exit) ≡ leftBy r (deciphered (now (key .entry)) (now (tweak .entry)) (now («data» .entry))) (now («data» .entry)) ⌝ }
+    ensures { λ r. ⌜ ExactlyOneBoard r (now (key .entry)) (now (tweak .entry)) (now («data» .entry)) (now («data» .exit)) ⌝ }
+{
+    let answer = judge(key, tweak, data);
+    if let Answer::Done = answer {
+        decipher_board(ExpandedKey::new(key), Block::read(tweak, 0), data);
+    }
+    answer
+}
