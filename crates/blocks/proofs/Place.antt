@@ -8,7 +8,7 @@ use native.Mathlib.Numerals.{add-one}
 use native.Mathlib.Omega.{arith}
 use lib.Arith.{digits-div}
 use lib.ListN.{length, getD, take, drop, set, take-append-drop, length-append, length-drop, length-set, drop-of-length-le}
-use lib.Seq.{getD-drop, drop-drop, drop-at, take-nil, take-all, length-take-le, drop-nil, drop-length, set-out, set-comm}
+use lib.Seq.{getD-drop, drop-drop, drop-at, take-nil, take-all, drop-nil, drop-length, set-out, set-comm}
 use Rattle.blocks.specs.Bytes.{Bytes, number, bytes, block, overwrite}
 use Rattle.blocks.proofs.Bytes.{bytes-append, bytes-above, number-below, number-append, padded, length-padded, padded-below, padded-suc, padded-add, block-padded, below-drop}
 
@@ -129,22 +129,15 @@ drop-overwrite zero (b ∷ t) (a ∷ s) =
 drop-overwrite (suc i) t (a ∷ s) = rw (overwrite-skip i t a s, suc-add, drop-overwrite i t s)
 
 -- The part behind the first w bytes, lent by itself: what it is, and the whole when it comes back as t.
-module _ (w : ℕ) (s t : List ℕ) (h : w ≤ length s) (l : length t ≡ length s - w) where
-  pub part-behind : take (length s - w) (drop w s) ≡ drop w s
-  part-behind = take-all (length s - w) (drop w s) (rw length-drop (omega arith))
+pub part-behind : (w : ℕ) (s : List ℕ) → take (length s - w) (drop w s) ≡ drop w s
+part-behind w s = take-all (length s - w) (drop w s) (rw length-drop (omega arith))
 
-  pub put-back : take w s ++ (t ++ drop (length s - w) (drop w s)) ≡ take w s ++ t
-  put-back =
-      let short : length (drop w s) ≤ length s - w = rw length-drop (omega arith) in
-      let none : drop (length s - w) (drop w s) ≡ [] = drop-of-length-le (drop w s) short in
-      rw (none, append-nil t)
+pub put-back : (w : ℕ) (s t : List ℕ) → take w s ++ (t ++ drop (length s - w) (drop w s)) ≡ take w s ++ t
+put-back w s t =
+    let short : length (drop w s) ≤ length s - w = rw length-drop (omega arith) in
+    let none : drop (length s - w) (drop w s) ≡ [] = drop-of-length-le (drop w s) short in
+    rw (none, append-nil t)
 
-  pub behind-back : take (length (take w s ++ t) - w) (drop w (take w s ++ t)) ≡ t
-  behind-back =
-      rw (drop-at (take w s) t w (length-take-le w s h), length-append, length-take-le w s h)
-      (take-all (w + length t - w) t (omega arith))
-
-  pub overwrite-back : (u : List ℕ) → length u ≡ w → overwrite 0 u (take w s ++ t) ≡ u ++ t
-  overwrite-back u e =
-      rw (overwrite-head u (take w s ++ t) (rw (length-append, length-take-le w s h, e) (omega arith)), e)
-      (ap (λ (r : List ℕ). u ++ r) (drop-at (take w s) t w (length-take-le w s h)))
+pub overwrite-front-part : (w : ℕ) (a t u : List ℕ) → length a ≡ w → length u ≡ w → overwrite 0 u (a ++ t) ≡ u ++ t
+overwrite-front-part w a t u ha hu =
+    rw (overwrite-head u (a ++ t) (rw (length-append, ha, hu) (omega arith)), hu) (ap (λ (r : List ℕ). u ++ r) (drop-at a t w ha))

@@ -3,13 +3,13 @@
 use Prim.Native.Nat.{ℕ, _-_, _*_, _≤_}
 use mathlib.Core.Path.{_≡_, refl}
 use mathlib.Core.List.{List, _++_}
-use lib.ListN.{length, take, drop, length-drop}
+use lib.ListN.{length, take, drop}
+use lib.Seq.{drop-at, length-take-le}
 use Rattle.blocks.specs.Xor.{_⊕_}
 use Rattle.blocks.specs.Bytes.{bytes, block, blocks, overwrite}
 use Rattle.blocks.specs.Counter.{maskedBytes}
 use Rattle.blocks.proofs.Bytes.{length-bytes, block-first}
-use Rattle.blocks.proofs.Counter.{length-masked}
-use Rattle.blocks.proofs.Place.{part-behind, put-back, behind-back, overwrite-back}
+use Rattle.blocks.proofs.Place.{part-behind, put-back, overwrite-front-part}
 use Rattle.hch.specs.Hch.{bin, H, Ctr, encipher, decipher, ctrBytes, fromI}
 
 -- The counter step on bytes is counter mode with E of S and the number.
@@ -17,33 +17,30 @@ pub ctr-masked : (E : ℕ → ℕ) (S : ℕ) (s : List ℕ) → ctrBytes E S s �
 unfolding ctrBytes Ctr maskedBytes
 ctr-masked E S s = refl
 
-length-ctr : (E : ℕ → ℕ) (S : ℕ) (s : List ℕ) → length (ctrBytes E S s) ≡ length s
-length-ctr E S s = rw ctr-masked (length-masked (λ i. E (S ⊕ bin i)) 1 s)
-
 -- The counter step on the part behind the first block, the part put back, the hash of it written in front.
 pub finished : (E : ℕ → ℕ) (sum : ℕ → List ℕ → ℕ) (R Q I A₁ : ℕ) (s : List ℕ) → 16 ≤ length s
     → let t = ctrBytes E (E I) (take (length s - 16) (drop 16 s)) in
     let s′ = take 16 s ++ (t ++ drop (length s - 16) (drop 16 s)) in
-    overwrite 0 (bytes 16 (H sum R Q A₁ (blocks (take (length s′ - 16) (drop 16 s′))))) s′ ≡ fromI E sum R Q I A₁ (drop 16 s)
+    overwrite 0 (bytes 16 (H sum R Q A₁ (blocks (drop 16 s′)))) s′ ≡ fromI E sum R Q I A₁ (drop 16 s)
 unfolding fromI
 finished E sum R Q I A₁ s h =
     let t : List ℕ = ctrBytes E (E I) (drop 16 s) in
-    let l : length t ≡ length s - 16 = rw length-ctr (length-drop 16 s) in
-    rw (part-behind 16 s t h l, put-back 16 s t h l, behind-back 16 s t h l)
-    (overwrite-back 16 s t h l (bytes 16 (H sum R Q A₁ (blocks t))) (length-bytes 16 (H sum R Q A₁ (blocks t))))
+    let front : length (take 16 s) ≡ 16 = length-take-le 16 s h in
+    rw (part-behind 16 s, put-back 16 s t, drop-at (take 16 s) t 16 front)
+    (overwrite-front-part 16 (take 16 s) t (bytes 16 (H sum R Q A₁ (blocks t))) front (length-bytes 16 (H sum R Q A₁ (blocks t))))
 
--- The first block read where it stands and the others where they are lent: Table II, either side.
+-- The first block read where it stands: Table II, either side.
 module _ (E D xTimes : ℕ → ℕ) (sum : ℕ → List ℕ → ℕ) (T : ℕ) (s : List ℕ) (h : 16 ≤ length s) where
   pub enciphering : let R = E T in
       let Q = E (R ⊕ bin (8 * length s)) in
-      let M₁ = H sum R Q (block s) (blocks (take (length s - 16) (drop 16 s))) in
+      let M₁ = H sum R Q (block s) (blocks (drop 16 s)) in
       fromI E sum R (xTimes Q) (M₁ ⊕ E M₁) (E M₁) (drop 16 s) ≡ encipher E xTimes sum T s
   unfolding encipher fromI ctrBytes
-  enciphering = rw (block-first s h, part-behind 16 s (drop 16 s) h (length-drop 16 s))
+  enciphering = rw (block-first s h)
 
   pub deciphering : let R = E T in
       let Q = E (R ⊕ bin (8 * length s)) in
-      let U₁ = H sum R (xTimes Q) (block s) (blocks (take (length s - 16) (drop 16 s))) in
+      let U₁ = H sum R (xTimes Q) (block s) (blocks (drop 16 s)) in
       fromI E sum R Q (D U₁ ⊕ U₁) (D U₁) (drop 16 s) ≡ decipher E D xTimes sum T s
   unfolding decipher fromI ctrBytes
-  deciphering = rw (block-first s h, part-behind 16 s (drop 16 s) h (length-drop 16 s))
+  deciphering = rw (block-first s h)

@@ -67,11 +67,12 @@ fn bin(n: usize) -> Block
     }
 }
 
-// Formula (1): the first block by itself, the others where they are lent.
-fn hash(r: Block, q: Block, first: Block, rest: &[u8]) -> Block
-    ensures { λ x. ⌜ value x ≡ hash keyedSum (value r) (value q) (value first) (blocks (now (rest .entry))) ⌝ }
+// Formula (1): the first block by itself, the others where they stand in `data`, behind the first 16 bytes.
+fn hash(r: Block, q: Block, first: Block, data: &[u8]) -> Block
+    requires { ⌜ 16 ≤ length (now «data») ⌝ }
+    ensures { λ x. ⌜ value x ≡ hash keyedSum (value r) (value q) (value first) (blocks (drop 16 (now («data» .entry)))) ⌝ }
 {
-    q.xor(first).xor(field::power_sum(r, rest))
+    q.xor(first).xor(field::power_sum(r, &data[16..]))
 }
 
 // Adds to the block at `at` what formula (3) adds to the one of that number, cut where `data` ends.
@@ -99,7 +100,7 @@ fn finish(key: ExpandedKey, r: Block, q: Block, i: Block, first: Block, data: &m
     ensures { λ _. ⌜ now («data» .exit) ≡ fromI (under key .E) keyedSum (value r) (value q) (value i) (value first) (drop 16 (now («data» .entry))) ⌝ }
 {
     counter(key, key.encipher(i), &mut data[16..]);
-    hash(r, q, first, &data[16..]).write(data, 0);
+    hash(r, q, first, data).write(data, 0);
 }
 
 // Table II, left.
@@ -109,7 +110,7 @@ fn encipher_board(key: ExpandedKey, tweak: Block, data: &mut [u8])
 {
     let r = key.encipher(tweak);
     let q = key.encipher(r.xor(bin(8 * data.len())));
-    let m1 = hash(r, q, Block::read(data, 0), &data[16..]);
+    let m1 = hash(r, q, Block::read(data, 0), data);
     let u1 = key.encipher(m1);
     finish(key, r, field::times_x(q), m1.xor(u1), u1, data);
 }
@@ -121,7 +122,7 @@ fn decipher_board(key: ExpandedKey, tweak: Block, data: &mut [u8])
 {
     let r = key.encipher(tweak);
     let q = key.encipher(r.xor(bin(8 * data.len())));
-    let u1 = hash(r, field::times_x(q), Block::read(data, 0), &data[16..]);
+    let u1 = hash(r, field::times_x(q), Block::read(data, 0), data);
     let m1 = key.decipher(u1);
     finish(key, r, q, m1.xor(u1), m1, data);
 }

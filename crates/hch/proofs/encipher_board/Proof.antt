@@ -27,15 +27,6 @@ encipher-requires-2 c κs = search needs
 read-requires : tie.Need-read-requires
 read-requires c κs = search needs
 
-sub-hash : tie.Need-sub-hash
-sub-hash c = search needs
-
-part-hash-start : tie.Need-part-hash-start
-part-hash-start c = search needs
-
-part-hash-end : tie.Need-part-hash-end
-part-hash-end c = search needs
-
 hash-requires : tie.Need-hash-requires
 hash-requires c κs = search needs
 
@@ -49,7 +40,7 @@ xor-requires-2 : tie.Need-xor-requires-2
 xor-requires-2 c κs = search needs
 
 finish-requires : tie.Need-finish-requires
-finish-requires c κs = c .before .before .before .before .before .before .before .before .before .before .before .before .before .before .pre .0
+finish-requires c κs = c .before .before .before .before .before .before .before .before .before .before .before .before .before .pre .0
 
 same-length : tie.Need-same-length
 same-length c = search needs
@@ -60,11 +51,12 @@ returns c =
     let x2 = f .before .before in
     let e3 = x2 .before .before in
     let h = e3 .before in
-    let r = h .before .before .before in
+    let r = h .before .before in
     let e2 = r .before .before in
     let b = e2 .before .before in
     let e = b .before in
     let start = e .before .before in
+    let cipher = under (start .args .key) in
     rw (
       f .finish .ensures,
       x2 .xor2 .ensures,
@@ -77,7 +69,7 @@ returns c =
       b .bin .ensures,
       e .encipher .ensures,
     )
-    (enciphering (under (start .args .key) .E) (under (start .args .key) .D) xTimes keyedSum (value (start .args .tweak)) (now (start .args .«data»)) (start .pre .0))
+    (enciphering (cipher .E) (cipher .D) xTimes keyedSum (value (start .args .tweak)) (now (start .args .«data»)) (start .pre .0))
 
 pub encipher-board-spec : {M : Type 1} → statement M
 encipher-board-spec =
@@ -89,9 +81,6 @@ encipher-board-spec =
     xor-requires
     encipher-requires-2
     read-requires
-    sub-hash
-    part-hash-start
-    part-hash-end
     hash-requires
     encipher-requires-3
     times-x-requires

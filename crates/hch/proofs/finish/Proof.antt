@@ -1,4 +1,4 @@
--- The counter step on the part lent, the hash of the part that is back, and its write are Table II from I on.
+-- The counter step on the part lent, the hash of what is back, and its write are Table II from I on.
 -- Assumes nothing.
 use borrow.Author.Needs.{needs}
 use denote.Ref.{now}
@@ -24,15 +24,6 @@ part-counter-end c = search needs
 counter-requires : tie.Need-counter-requires
 counter-requires c κs = search needs
 
-sub-hash : tie.Need-sub-hash
-sub-hash c = search needs
-
-part-hash-start : tie.Need-part-hash-start
-part-hash-start c = search needs
-
-part-hash-end : tie.Need-part-hash-end
-part-hash-end c = search needs
-
 hash-requires : tie.Need-hash-requires
 hash-requires c κs = search needs
 
@@ -46,12 +37,12 @@ returns : tie.Need-returns
 returns c =
     let w = c .before .before in
     let h = w .before .before in
-    let k = h .before .before .before .before .before in
+    let k = h .before .before .before .before in
     let e = k .before .before in
-    let args = e .before .before .args in
+    let start = e .before .before in
+    let args = start .args in
     rw (w .write .ensures, h .hash .ensures, k .counter .ensures, e .encipher .ensures)
-    (finished (under (args .key) .E) keyedSum (value (args .r)) (value (args .q)) (value (args .i)) (value (args .first)) (now (args .«data»))
-    (e .before .before .pre))
+    (finished (under (args .key) .E) keyedSum (value (args .r)) (value (args .q)) (value (args .i)) (value (args .first)) (now (args .«data»)) (start .pre))
 
 pub finish-spec : {M : Type 1} → statement M
 finish-spec =
@@ -62,9 +53,6 @@ finish-spec =
     part-counter-start
     part-counter-end
     counter-requires
-    sub-hash
-    part-hash-start
-    part-hash-end
     hash-requires
     write-requires
     same-length
