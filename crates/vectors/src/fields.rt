@@ -5,13 +5,13 @@ use blocks::block::Block;
 use libc::STDOUT_FILENO;
 use text::hex::Decoded;
 
-// Decodes the blocks that stand from place `at` on, one space between two, to the front of `data`. Returns the number of their
-// bytes, or 0 where a field is not a block or `data` is full.
-pub(crate) fn blocks_from(line: &[u8], at: usize, data: &mut [u8]) -> usize
+// Decodes the blocks that stand in `line`, one space between two, to the front of `data`. Returns the number of their bytes, or 0
+// where a field is not a block or `data` is full.
+pub(crate) fn blocks_from(line: &[u8], data: &mut [u8]) -> usize
     ensures { λ r. ⌜ r ≤ length (now («data» .entry)) ⌝ }
 {
     let mut n = 0;
-    let mut next = at;
+    let mut next = 0;
     while next <= line.len() {
         let end = text::line::find(line, next, b' ');
         if data.len() - n < 16 {
@@ -29,11 +29,29 @@ pub(crate) fn blocks_from(line: &[u8], at: usize, data: &mut [u8]) -> usize
     n
 }
 
-// Writes a block as a line: its digits, and the line feed that they leave at the end.
+// Decodes a field of any length to the front of `out`. Returns the number of its bytes; one past the length of `out` says that
+// the field is not hexadecimal or has no room.
+pub(crate) fn field(digits: &[u8], out: &mut [u8]) -> usize {
+    let Decoded::Bytes(count) = text::hex::decode(digits, out) else {
+        return out.len() + 1;
+    };
+    count
+}
+
+// Writes a block as a line.
 pub(crate) fn put_block(b: Block) {
     let mut bytes = [0u8; 16];
     b.write(&mut bytes, 0);
     let mut line = [b'\n'; 33];
-    text::hex::encode(&bytes, &mut line);
-    io::write_all(STDOUT_FILENO, &line);
+    put_bytes(&bytes, &mut line);
+}
+
+// Writes bytes as a line, by way of `line`, in which the caller lends line feeds, more than there are digits: the digits go to
+// the front, and one line feed is written with them.
+pub(crate) fn put_bytes(bytes: &[u8], line: &mut [u8]) {
+    let n = text::hex::encode(bytes, line);
+    if n < line.len() {
+        let end = n + 1;
+        io::write_all(STDOUT_FILENO, &line[0..end]);
+    }
 }

@@ -7,6 +7,12 @@
 //     s r a1 .. an    the keyed sum of the blocks a1 .. an, n from 0 on, with the key r
 //     ae k a          a enciphered by AES-128 under the key k
 //     ad k a          a deciphered
+//     he k t d        d enciphered by HCH under the key k and the tweak t
+//     hd k t d        d deciphered
+//
+// The fields of HCH may have any length, and be empty; those of the others are blocks. What HCH
+// refuses is answered `no` and the number of the reason, from 1 to 4.
+mod board;
 mod fields;
 
 use blocks::aes::ExpandedKey;
@@ -72,13 +78,24 @@ fn reply(line: &[u8]) -> bool {
     if end >= line.len() {
         return false;
     }
+    let next = end + 1;
+    run(&line[0..end], &line[next..])
+}
+
+// A command on the rest of its line, of which all but HCH read blocks.
+fn run(command: &[u8], rest: &[u8]) -> bool {
+    if command.len() == 2 {
+        if command[0] == b'h' {
+            return board::reply(command[1], rest);
+        }
+    }
     let mut data = [0u8; LIMIT / 2];
-    let n = fields::blocks_from(line, end + 1, &mut data);
-    run(&line[0..end], &data[0..n])
+    let n = fields::blocks_from(rest, &mut data);
+    run_blocks(command, &data[0..n])
 }
 
 // A command on the bytes of its blocks.
-fn run(command: &[u8], data: &[u8]) -> bool {
+fn run_blocks(command: &[u8], data: &[u8]) -> bool {
     if command.len() == 1 {
         return ring(command[0], data);
     }

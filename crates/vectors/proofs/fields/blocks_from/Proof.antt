@@ -11,10 +11,10 @@ use Rattle.vectors.proofs.fields.blocks_from.Statement.{statement}
 use Rattle.vectors.proofs.fields.blocks_from.Tie as tie
 
 abbrev Inv-loop : tie.InvT-loop
-Inv-loop line at data₀ n₀ next₀ «data» n next = (n ≤ length «data») × (length «data» ≡ length data₀)
+Inv-loop line data₀ n₀ next₀ «data» n next = (n ≤ length «data») × (length «data» ≡ length data₀)
 
 abbrev μ-loop : tie.MeasureT-loop
-μ-loop line at data₀ n₀ next₀ «data» n next = length «data» - n
+μ-loop line data₀ n₀ next₀ «data» n next = length «data» - n
 
 loop-holds : tie.Need-loop-holds Inv-loop μ-loop
 loop-holds c = (zero-le, refl)

@@ -1,0 +1,6 @@
+/* HCH in plain C, to measure against. The length is 16 to 4,096 bytes; the work is done in place. */
+#include <stddef.h>
+#include <stdint.h>
+
+void plain_hch_encipher(const uint8_t key[16], const uint8_t tweak[16], uint8_t *data, size_t length);
+void plain_hch_decipher(const uint8_t key[16], const uint8_t tweak[16], uint8_t *data, size_t length);
