@@ -2,6 +2,8 @@
 ghost use mathlib.Core.Path.{_≡_};
 ghost use Rattle.blocks.specs.Bytes.{block, bytes, overwrite};
 ghost use Rattle.blocks.specs.Aes.{Nr, encipher};
+ghost use Rattle.hch.specs.Hch.{enciphered, deciphered};
+ghost use Rattle.hch.specs.Call.{numberOf, answerOf, leftBy};
 use blocks::aes::ExpandedKey;
 use blocks::block::Block;
 
@@ -12,4 +14,22 @@ pub extern "C" fn bench_aes_encipher(words: &[u32; 44], data: &mut [u8])
 {
     let key = ExpandedKey { words: *words };
     key.encipher(Block::read(data, 0)).write(data, 0);
+}
+
+// Enciphers by HCH, and answers 01's number, 0 where it was done.
+#[no_mangle]
+pub extern "C" fn bench_hch_encipher(key: &[u8], tweak: &[u8], data: &mut [u8]) -> u32
+    ensures { λ r. ⌜ r ≡ numberOf (answerOf (now (key .entry)) (now (tweak .entry)) (now («data» .entry))) ⌝ }
+    ensures { λ _. ⌜ now («data» .exit) ≡ leftBy (answerOf (now (key .entry)) (now (tweak .entry)) (now («data» .entry))) (enciphered (now (key .entry)) (now (tweak .entry)) (now («data» .entry))) (now («data» .entry)) ⌝ }
+{
+    hch::encipher(key, tweak, data).number()
+}
+
+// Deciphers by HCH, and answers 01's number, 0 where it was done.
+#[no_mangle]
+pub extern "C" fn bench_hch_decipher(key: &[u8], tweak: &[u8], data: &mut [u8]) -> u32
+    ensures { λ r. ⌜ r ≡ numberOf (answerOf (now (key .entry)) (now (tweak .entry)) (now («data» .entry))) ⌝ }
+    ensures { λ _. ⌜ now («data» .exit) ≡ leftBy (answerOf (now (key .entry)) (now (tweak .entry)) (now («data» .entry))) (deciphered (now (key .entry)) (now (tweak .entry)) (now («data» .entry))) (now («data» .entry)) ⌝ }
+{
+    hch::decipher(key, tweak, data).number()
 }

@@ -1,0 +1,23 @@
+-- The call's answer, as its number.
+-- Assumes nothing.
+use borrow.Author.Needs.{needs}
+use Rattle.bench.proofs.bench_hch_encipher.Statement.{statement}
+use Rattle.bench.proofs.bench_hch_encipher.Tie as tie
+
+encipher-requires : tie.Need-encipher-requires
+encipher-requires c κs = search needs
+
+number-requires : tie.Need-number-requires
+number-requires c κs = search needs
+
+same-length : tie.Need-same-length
+same-length c = search needs
+
+returns : tie.Need-returns
+returns c =
+    let e = c .before .before .before in
+    (rw (c .number .ensures, e .encipher .ensures .0), rw (e .encipher .ensures .0) at (e .encipher .ensures .1))
+
+pub bench-hch-encipher-spec : {M : Type 1} → statement M
+bench-hch-encipher-spec =
+    tie.close (tie.spec encipher-requires number-requires same-length returns)
