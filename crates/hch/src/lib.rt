@@ -57,13 +57,13 @@ fn judge(key: &[u8], tweak: &[u8], data: &[u8]) -> Answer
     Answer::Done
 }
 
-// A number as a block.
-fn bin(n: usize) -> Block
-    ensures { λ r. ⌜ value r ≡ bin n ⌝ }
+// a ⊕ bin(n).
+fn xor_bin(a: Block, n: usize) -> Block
+    ensures { λ r. ⌜ value r ≡ value a ⊕ bin n ⌝ }
 {
     Block {
-        hi: 0,
-        lo: n as u64,
+        hi: a.hi,
+        lo: a.lo ^ (n as u64),
     }
 }
 
@@ -79,7 +79,7 @@ fn hash(r: Block, q: Block, first: Block, data: &[u8]) -> Block
 fn mask(key: ExpandedKey, s: Block, data: &mut [u8], at: usize)
     ensures { λ _. ⌜ now («data» .exit) ≡ overwrite at (bytes 16 (block (drop at (now («data» .entry))) ⊕ under key .E (value s ⊕ bin (at / 16 + 1)))) (now («data» .entry)) ⌝ }
 {
-    let pad = key.encipher(s.xor(bin(at / 16 + 1)));
+    let pad = key.encipher(xor_bin(s, at / 16 + 1));
     Block::read(data, at).xor(pad).write(data, at);
 }
 
@@ -99,7 +99,8 @@ fn finish(key: ExpandedKey, r: Block, q: Block, i: Block, first: Block, data: &m
     requires { ⌜ 16 ≤ length (now «data») ⌝ }
     ensures { λ _. ⌜ now («data» .exit) ≡ fromI (under key .E) keyedSum (value r) (value q) (value i) (value first) (drop 16 (now («data» .entry))) ⌝ }
 {
-    counter(key, key.encipher(i), &mut data[16..]);
+    let s = key.encipher(i);
+    counter(key, s, &mut data[16..]);
     hash(r, q, first, data).write(data, 0);
 }
 
@@ -109,10 +110,11 @@ fn encipher_board(key: ExpandedKey, tweak: Block, data: &mut [u8])
     ensures { λ _. ⌜ now («data» .exit) ≡ encipher (under key .E) xTimes keyedSum (value tweak) (now («data» .entry)) ⌝ }
 {
     let r = key.encipher(tweak);
-    let q = key.encipher(r.xor(bin(8 * data.len())));
+    let q = key.encipher(xor_bin(r, 8 * data.len()));
     let m1 = hash(r, q, Block::read(data, 0), data);
     let u1 = key.encipher(m1);
-    finish(key, r, field::times_x(q), m1.xor(u1), u1, data);
+    let xq = field::times_x(q);
+    finish(key, r, xq, m1.xor(u1), u1, data);
 }
 
 // Table II, right.
@@ -121,8 +123,9 @@ fn decipher_board(key: ExpandedKey, tweak: Block, data: &mut [u8])
     ensures { λ _. ⌜ now («data» .exit) ≡ decipher (under key .E) (under key .D) xTimes keyedSum (value tweak) (now («data» .entry)) ⌝ }
 {
     let r = key.encipher(tweak);
-    let q = key.encipher(r.xor(bin(8 * data.len())));
-    let u1 = hash(r, field::times_x(q), Block::read(data, 0), data);
+    let q = key.encipher(xor_bin(r, 8 * data.len()));
+    let xq = field::times_x(q);
+    let u1 = hash(r, xq, Block::read(data, 0), data);
     let m1 = key.decipher(u1);
     finish(key, r, q, m1.xor(u1), m1, data);
 }

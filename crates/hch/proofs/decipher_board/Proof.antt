@@ -12,14 +12,11 @@ use Rattle.hch.proofs.decipher_board.Tie as tie
 encipher-requires : tie.Need-encipher-requires
 encipher-requires c κs = search needs
 
-mul-bin : tie.Need-mul-bin
-mul-bin c = search needs
+mul-xor-bin : tie.Need-mul-xor-bin
+mul-xor-bin c = search needs
 
-bin-requires : tie.Need-bin-requires
-bin-requires c κs = search needs
-
-xor-requires : tie.Need-xor-requires
-xor-requires c κs = search needs
+xor-bin-requires : tie.Need-xor-bin-requires
+xor-bin-requires c κs = search needs
 
 encipher-requires-2 : tie.Need-encipher-requires-2
 encipher-requires-2 c κs = search needs
@@ -36,11 +33,11 @@ hash-requires c κs = search needs
 decipher-requires : tie.Need-decipher-requires
 decipher-requires c κs = search needs
 
-xor-requires-2 : tie.Need-xor-requires-2
-xor-requires-2 c κs = search needs
+xor-requires : tie.Need-xor-requires
+xor-requires c κs = search needs
 
 finish-requires : tie.Need-finish-requires
-finish-requires c κs = c .before .before .before .before .before .before .before .before .before .before .before .before .before .pre .0
+finish-requires c κs = search needs
 
 same-length : tie.Need-same-length
 same-length c = search needs
@@ -48,26 +45,25 @@ same-length c = search needs
 returns : tie.Need-returns
 returns c =
     let f = c .before .before in
-    let x2 = f .before .before in
-    let d = x2 .before in
+    let x = f .before .before in
+    let d = x .before in
     let h = d .before in
     let r = h .before .before in
     let tx = r .before .before in
     let e2 = tx .before in
-    let b = e2 .before .before in
+    let b = e2 .before in
     let e = b .before in
     let start = e .before .before in
     let cipher = under (start .args .key) in
     rw (
       f .finish .ensures,
-      x2 .xor2 .ensures,
+      x .xor .ensures,
       d .decipher .ensures,
       h .hash .ensures,
       r .read .ensures,
       tx .times-x .ensures,
       e2 .encipher2 .ensures,
-      e2 .before .xor .ensures,
-      b .bin .ensures,
+      b .xor-bin .ensures,
       e .encipher .ensures,
     )
     (deciphering (cipher .E) (cipher .D) xTimes keyedSum (value (start .args .tweak)) (now (start .args .«data»)) (start .pre .0))
@@ -77,15 +73,14 @@ decipher-board-spec =
     tie.close
     (tie.spec
     encipher-requires
-    mul-bin
-    bin-requires
-    xor-requires
+    mul-xor-bin
+    xor-bin-requires
     encipher-requires-2
     times-x-requires
     read-requires
     hash-requires
     decipher-requires
-    xor-requires-2
+    xor-requires
     finish-requires
     same-length
     returns)

@@ -12,14 +12,11 @@ use Rattle.hch.proofs.encipher_board.Tie as tie
 encipher-requires : tie.Need-encipher-requires
 encipher-requires c κs = search needs
 
-mul-bin : tie.Need-mul-bin
-mul-bin c = search needs
+mul-xor-bin : tie.Need-mul-xor-bin
+mul-xor-bin c = search needs
 
-bin-requires : tie.Need-bin-requires
-bin-requires c κs = search needs
-
-xor-requires : tie.Need-xor-requires
-xor-requires c κs = search needs
+xor-bin-requires : tie.Need-xor-bin-requires
+xor-bin-requires c κs = search needs
 
 encipher-requires-2 : tie.Need-encipher-requires-2
 encipher-requires-2 c κs = search needs
@@ -36,11 +33,11 @@ encipher-requires-3 c κs = search needs
 times-x-requires : tie.Need-times-x-requires
 times-x-requires c κs = search needs
 
-xor-requires-2 : tie.Need-xor-requires-2
-xor-requires-2 c κs = search needs
+xor-requires : tie.Need-xor-requires
+xor-requires c κs = search needs
 
 finish-requires : tie.Need-finish-requires
-finish-requires c κs = c .before .before .before .before .before .before .before .before .before .before .before .before .before .pre .0
+finish-requires c κs = search needs
 
 same-length : tie.Need-same-length
 same-length c = search needs
@@ -48,25 +45,24 @@ same-length c = search needs
 returns : tie.Need-returns
 returns c =
     let f = c .before .before in
-    let x2 = f .before .before in
-    let e3 = x2 .before .before in
+    let x = f .before .before in
+    let e3 = x .before .before in
     let h = e3 .before in
     let r = h .before .before in
     let e2 = r .before .before in
-    let b = e2 .before .before in
+    let b = e2 .before in
     let e = b .before in
     let start = e .before .before in
     let cipher = under (start .args .key) in
     rw (
       f .finish .ensures,
-      x2 .xor2 .ensures,
-      x2 .before .times-x .ensures,
+      x .xor .ensures,
+      x .before .times-x .ensures,
       e3 .encipher3 .ensures,
       h .hash .ensures,
       r .read .ensures,
       e2 .encipher2 .ensures,
-      e2 .before .xor .ensures,
-      b .bin .ensures,
+      b .xor-bin .ensures,
       e .encipher .ensures,
     )
     (enciphering (cipher .E) (cipher .D) xTimes keyedSum (value (start .args .tweak)) (now (start .args .«data»)) (start .pre .0))
@@ -76,15 +72,14 @@ encipher-board-spec =
     tie.close
     (tie.spec
     encipher-requires
-    mul-bin
-    bin-requires
-    xor-requires
+    mul-xor-bin
+    xor-bin-requires
     encipher-requires-2
     read-requires
     hash-requires
     encipher-requires-3
     times-x-requires
-    xor-requires-2
+    xor-requires
     finish-requires
     same-length
     returns)

@@ -4,14 +4,11 @@ use borrow.Author.Needs.{needs}
 use Rattle.hch.proofs.mask.Statement.{statement}
 use Rattle.hch.proofs.mask.Tie as tie
 
-add-bin : tie.Need-add-bin
-add-bin c = search needs
+add-xor-bin : tie.Need-add-xor-bin
+add-xor-bin c = search needs
 
-bin-requires : tie.Need-bin-requires
-bin-requires c κs = search needs
-
-xor-requires : tie.Need-xor-requires
-xor-requires c κs = search needs
+xor-bin-requires : tie.Need-xor-bin-requires
+xor-bin-requires c κs = search needs
 
 encipher-requires : tie.Need-encipher-requires
 encipher-requires c κs = search needs
@@ -19,8 +16,8 @@ encipher-requires c κs = search needs
 read-requires : tie.Need-read-requires
 read-requires c κs = search needs
 
-xor-requires-2 : tie.Need-xor-requires-2
-xor-requires-2 c κs = search needs
+xor-requires : tie.Need-xor-requires
+xor-requires c κs = search needs
 
 write-requires : tie.Need-write-requires
 write-requires c κs = search needs
@@ -35,23 +32,21 @@ returns c =
     let enciphered = added .before .before .before in
     rw (
       written .write .ensures,
-      added .xor2 .ensures,
+      added .xor .ensures,
       added .before .read .ensures,
       enciphered .encipher .ensures,
-      enciphered .before .xor .ensures,
-      enciphered .before .before .bin .ensures,
+      enciphered .before .xor-bin .ensures,
     )
 
 pub mask-spec : {M : Type 1} → statement M
 mask-spec =
     tie.close
     (tie.spec
-    add-bin
-    bin-requires
-    xor-requires
+    add-xor-bin
+    xor-bin-requires
     encipher-requires
     read-requires
-    xor-requires-2
+    xor-requires
     write-requires
     same-length
     returns)
