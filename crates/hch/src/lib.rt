@@ -67,6 +67,14 @@ fn xor_bin(a: Block, n: usize) -> Block
     }
 }
 
+// Step 1: Q, from R and the length in bytes.
+fn length_key(key: ExpandedKey, r: Block, length: usize) -> Block
+    requires { ⌜ length ≤ 4096 ⌝ }
+    ensures { λ x. ⌜ value x ≡ under key .E (value r ⊕ bin (8 * length)) ⌝ }
+{
+    key.encipher(xor_bin(r, 8 * length))
+}
+
 // Formula (1): the first block by itself, the others where they stand in `data`, behind the first 16 bytes.
 fn hash(r: Block, q: Block, first: Block, data: &[u8]) -> Block
     requires { ⌜ 16 ≤ length (now «data») ⌝ }
@@ -110,7 +118,7 @@ fn encipher_board(key: ExpandedKey, tweak: Block, data: &mut [u8])
     ensures { λ _. ⌜ now («data» .exit) ≡ encipher (under key .E) xTimes keyedSum (value tweak) (now («data» .entry)) ⌝ }
 {
     let r = key.encipher(tweak);
-    let q = key.encipher(xor_bin(r, 8 * data.len()));
+    let q = length_key(key, r, data.len());
     let m1 = hash(r, q, Block::read(data, 0), data);
     let u1 = key.encipher(m1);
     let xq = field::times_x(q);
@@ -123,7 +131,7 @@ fn decipher_board(key: ExpandedKey, tweak: Block, data: &mut [u8])
     ensures { λ _. ⌜ now («data» .exit) ≡ decipher (under key .E) (under key .D) xTimes keyedSum (value tweak) (now («data» .entry)) ⌝ }
 {
     let r = key.encipher(tweak);
-    let q = key.encipher(xor_bin(r, 8 * data.len()));
+    let q = length_key(key, r, data.len());
     let xq = field::times_x(q);
     let u1 = hash(r, xq, Block::read(data, 0), data);
     let m1 = key.decipher(u1);

@@ -12,14 +12,8 @@ use Rattle.hch.proofs.decipher_board.Tie as tie
 encipher-requires : tie.Need-encipher-requires
 encipher-requires c κs = search needs
 
-mul-xor-bin : tie.Need-mul-xor-bin
-mul-xor-bin c = search needs
-
-xor-bin-requires : tie.Need-xor-bin-requires
-xor-bin-requires c κs = search needs
-
-encipher-requires-2 : tie.Need-encipher-requires-2
-encipher-requires-2 c κs = search needs
+length-key-requires : tie.Need-length-key-requires
+length-key-requires c κs = search needs
 
 times-x-requires : tie.Need-times-x-requires
 times-x-requires c κs = search needs
@@ -50,9 +44,8 @@ returns c =
     let h = d .before in
     let r = h .before .before in
     let tx = r .before .before in
-    let e2 = tx .before in
-    let b = e2 .before in
-    let e = b .before in
+    let l = tx .before in
+    let e = l .before in
     let start = e .before .before in
     let cipher = under (start .args .key) in
     rw (
@@ -62,8 +55,7 @@ returns c =
       h .hash .ensures,
       r .read .ensures,
       tx .times-x .ensures,
-      e2 .encipher2 .ensures,
-      b .xor-bin .ensures,
+      l .length-key .ensures,
       e .encipher .ensures,
     )
     (deciphering (cipher .E) (cipher .D) xTimes keyedSum (value (start .args .tweak)) (now (start .args .«data»)) (start .pre .0))
@@ -73,9 +65,7 @@ decipher-board-spec =
     tie.close
     (tie.spec
     encipher-requires
-    mul-xor-bin
-    xor-bin-requires
-    encipher-requires-2
+    length-key-requires
     times-x-requires
     read-requires
     hash-requires

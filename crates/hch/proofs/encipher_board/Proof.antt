@@ -12,14 +12,8 @@ use Rattle.hch.proofs.encipher_board.Tie as tie
 encipher-requires : tie.Need-encipher-requires
 encipher-requires c κs = search needs
 
-mul-xor-bin : tie.Need-mul-xor-bin
-mul-xor-bin c = search needs
-
-xor-bin-requires : tie.Need-xor-bin-requires
-xor-bin-requires c κs = search needs
-
-encipher-requires-2 : tie.Need-encipher-requires-2
-encipher-requires-2 c κs = search needs
+length-key-requires : tie.Need-length-key-requires
+length-key-requires c κs = search needs
 
 read-requires : tie.Need-read-requires
 read-requires c κs = search needs
@@ -27,8 +21,8 @@ read-requires c κs = search needs
 hash-requires : tie.Need-hash-requires
 hash-requires c κs = search needs
 
-encipher-requires-3 : tie.Need-encipher-requires-3
-encipher-requires-3 c κs = search needs
+encipher-requires-2 : tie.Need-encipher-requires-2
+encipher-requires-2 c κs = search needs
 
 times-x-requires : tie.Need-times-x-requires
 times-x-requires c κs = search needs
@@ -46,23 +40,21 @@ returns : tie.Need-returns
 returns c =
     let f = c .before .before in
     let x = f .before .before in
-    let e3 = x .before .before in
-    let h = e3 .before in
+    let e2 = x .before .before in
+    let h = e2 .before in
     let r = h .before .before in
-    let e2 = r .before .before in
-    let b = e2 .before in
-    let e = b .before in
+    let l = r .before .before in
+    let e = l .before in
     let start = e .before .before in
     let cipher = under (start .args .key) in
     rw (
       f .finish .ensures,
       x .xor .ensures,
       x .before .times-x .ensures,
-      e3 .encipher3 .ensures,
+      e2 .encipher2 .ensures,
       h .hash .ensures,
       r .read .ensures,
-      e2 .encipher2 .ensures,
-      b .xor-bin .ensures,
+      l .length-key .ensures,
       e .encipher .ensures,
     )
     (enciphering (cipher .E) (cipher .D) xTimes keyedSum (value (start .args .tweak)) (now (start .args .«data»)) (start .pre .0))
@@ -72,12 +64,10 @@ encipher-board-spec =
     tie.close
     (tie.spec
     encipher-requires
-    mul-xor-bin
-    xor-bin-requires
-    encipher-requires-2
+    length-key-requires
     read-requires
     hash-requires
-    encipher-requires-3
+    encipher-requires-2
     times-x-requires
     xor-requires
     finish-requires
