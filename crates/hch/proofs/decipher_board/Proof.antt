@@ -48,7 +48,7 @@ returns c =
     let e = l .before in
     let start = e .before .before in
     let cipher = under (start .args .key) in
-    rw (
+    simp (
       f .finish .ensures,
       x .xor .ensures,
       d .decipher .ensures,

@@ -47,7 +47,7 @@ returns c =
     let e = l .before in
     let start = e .before .before in
     let cipher = under (start .args .key) in
-    rw (
+    simp (
       f .finish .ensures,
       x .xor .ensures,
       x .before .times-x .ensures,

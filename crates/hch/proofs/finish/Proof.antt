@@ -41,7 +41,7 @@ returns c =
     let e = k .before .before in
     let start = e .before .before in
     let args = start .args in
-    rw (w .write .ensures, h .hash .ensures, k .counter .ensures, e .encipher .ensures)
+    simp (w .write .ensures, h .hash .ensures, k .counter .ensures, e .encipher .ensures)
     (finished (under (args .key) .E) keyedSum (value (args .r)) (value (args .q)) (value (args .i)) (value (args .first)) (now (args .«data»)) (start .pre))
 
 pub finish-spec : {M : Type 1} → statement M

@@ -27,7 +27,13 @@ xor-requires-2 c κs = search needs
 
 returns : tie.Need-returns
 unfolding H
-returns c = rw (c .xor2 .ensures, c .before .power-sum .ensures, c .before .before .before .xor .ensures, part-behind 16 (now (c .before .before .before .before .before .args .«data»)))
+returns c =
+    rw (
+      c .xor2 .ensures,
+      c .before .power-sum .ensures,
+      c .before .before .before .xor .ensures,
+      part-behind 16 (now (c .before .before .before .before .before .args .«data»)),
+    )
 
 pub hash-spec : {M : Type 1} → statement M
 hash-spec =
