@@ -8,7 +8,7 @@ use native.Mathlib.Numerals.{one-add}
 use native.Mathlib.Omega.{arith}
 use lib.Arith.{digits-lt, digits-div, mod-mul}
 use lib.Pow.{pow-add, pow-pos}
-use lib.ListN.{length, getD, take, drop, replicate, length-append, length-drop, length-replicate, List·getD-eq-default}
+use lib.ListN.{length, getD, take, drop, replicate, length-append, length-drop, List·getD-eq-default}
 use lib.Seq.{getD-drop, drop-drop, take-nil, take-all, length-take-le}
 use Rattle.blocks.specs.Xor.{_⊕_, xorBytes}
 use Rattle.blocks.specs.Bytes.{Below, Bytes, number, bytes, pad, block, cut, blocks}
@@ -31,11 +31,6 @@ below-take zero s h i = below-pos s h
 below-take (suc m) [] h i = h i
 below-take (suc m) (a ∷ s) h zero = h 0
 below-take (suc m) (a ∷ s) h (suc i) = below-take m s (λ j. h (suc j)) i
-
-pub below-zeros : {n : ℕ} (m : ℕ) → 0 < n → Below n (replicate m 0)
-below-zeros zero h i = h
-below-zeros (suc m) h zero = h
-below-zeros (suc m) h (suc i) = below-zeros m h i
 
 -- Numbers and bytes.
 pos : (n : ℕ) → 0 < 256 ^ n
@@ -183,14 +178,6 @@ block-first s h = ap number (rw (length-take-le 16 s h, append-nil))
 pub block-whole : (s : List ℕ) → length s ≡ 16 → block s ≡ number s
 unfolding block pad
 block-whole s h = ap number (rw (take-all 16 s (omega arith), h, append-nil))
-
-pub length-pad : (s : List ℕ) → length s ≤ 16 → length (pad s) ≡ 16
-unfolding pad
-length-pad s h = simp (length-append, length-replicate) (omega arith)
-
-pub pad-below : {n : ℕ} (s : List ℕ) → Below n s → Below n (pad s)
-unfolding pad
-pad-below s h = below-append s (replicate (16 - length s) 0) h (below-zeros (16 - length s) (below-pos s h))
 
 pub block-below : (s : List ℕ) → Bytes s → block s < 2 ^ 128
 block-below s h = rw (block-padded s) (rw length-padded at (number-below (padded 16 s) (padded-below 16 s h)))

@@ -2,14 +2,14 @@
 -- masked by what went in and came out; and a sum of the masked rest is added to what came out.
 -- Assumes nothing.
 use Prim.Native.Nat.{ℕ, _-_, _*_, _^_, _≤_, _<_}
-use mathlib.Core.Path.{_≡_, refl}
+use mathlib.Core.Path.{_≡_}
 use mathlib.Core.List.{List, _++_}
 use native.Mathlib.Nat.{mod-eq-of-lt}
 use native.Mathlib.Omega.{arith}
-use lib.ListN.{length, take, drop, length-append, length-take, length-drop, take-append-drop}
+use lib.ListN.{take, drop, length-append, length-drop, take-append-drop}
 use lib.Seq.{take-at, drop-at, length-take-le}
 use Rattle.blocks.specs.Xor.{_⊕_}
-use Rattle.blocks.specs.Bytes.{Bytes, OfLength, number, bytes}
+use Rattle.blocks.specs.Bytes.{OfLength, number, bytes}
 use Rattle.blocks.specs.Permutation.{Permutation, Cipher}
 use Rattle.blocks.proofs.Xor.{xor-comm, xor-below, xor-cancel-right}
 use Rattle.blocks.proofs.Bytes.{below-append, below-take, below-drop, length-bytes, bytes-below, number-below, number-bytes, bytes-number, pow-mul}

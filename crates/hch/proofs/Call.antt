@@ -2,9 +2,9 @@
 -- Assumes nothing.
 use Prim.Native.Nat.{ℕ, _≤_}
 use mathlib.Core.Path.{_≡_, refl, ap}
-use mathlib.Core.Bool.{Bool, true, false, cond}
+use mathlib.Core.Bool.{Bool, true, false, cond, not}
 use mathlib.Core.List.{List, [], _∷_}
-use mathlib.Core.Logic.{_⊎_, inl, inr}
+use mathlib.Core.Logic.{inl, inr}
 use native.Mathlib.Omega.{arith}
 use lib.Dec.{ltb, eqb}
 use lib.ListN.{length}
@@ -17,7 +17,7 @@ use Rattle.hch.specs.declared.Answer.the-variants.{Done, KeyLength, Twea
 use Rattle.hch.proofs.Answer.{the-type}
 
 -- No refusal is the answer of a call that is done: its number is not 0.
-by-tests : (a b c d : Bool) → cond a (cond b (cond c TooShort (cond d TooLong Done)) TweakLength) KeyLength ≡ Done
+by-tests : (a b c d : Bool) → cond (not a) KeyLength (cond (not b) TweakLength (cond c TooShort (cond d TooLong Done))) ≡ Done
     → (a ≡ true) × (b ≡ true) × (c ≡ false) × (d ≡ false)
 by-tests false b c d e = absurd (omega (arith, ap numberOf e))
 by-tests true false c d e = absurd (omega (arith, ap numberOf e))
@@ -25,21 +25,21 @@ by-tests true true true d e = absurd (omega (arith, ap numberOf e))
 by-tests true true false true e = absurd (omega (arith, ap numberOf e))
 by-tests true true false false e = (refl, refl, refl, refl)
 
-pub record Admitted (key tweak board : List ℕ) : Type 0 where
+pub record Admitted (key tweak message : List ℕ) : Type 0 where
   pub key-length : length key ≡ 16
   pub tweak-length : length tweak ≡ 16
-  pub at-least : 16 ≤ length board
-  pub at-most : length board ≤ 4096
+  pub at-least : 16 ≤ length message
+  pub at-most : length message ≤ 4096
 
-pub admitted : (key tweak board : List ℕ) → answerOf key tweak board ≡ Done → Admitted key tweak board
+pub admitted : (key tweak message : List ℕ) → answerOf key tweak message ≡ Done → Admitted key tweak message
 unfolding answerOf
-admitted key tweak board e =
-    let t = by-tests (eqb (length key) 16) (eqb (length tweak) 16) (ltb (length board) 16) (ltb 4096 (length board)) e in
+admitted key tweak message e =
+    let t = by-tests (eqb (length key) 16) (eqb (length tweak) 16) (ltb (length message) 16) (ltb 4096 (length message)) e in
     record {
       key-length = eqb-true (length key) 16 (t .0);
       tweak-length = eqb-true (length tweak) 16 (t .1);
-      at-least = ltb-false (length board) 16 (t .2);
-      at-most = ltb-false 4096 (length board) (t .3);
+      at-least = ltb-false (length message) 16 (t .2);
+      at-most = ltb-false 4096 (length message) (t .3);
     }
 
 -- The bytes are left as they were by every answer but the first.
@@ -52,9 +52,9 @@ other n (inr (inr (inr e))) z = omega arith
 pub not-done : (a : Answer) → OneOf (1 ∷ 2 ∷ 3 ∷ 4 ∷ []) (tagOf the-type a) → a ≡ Done → ⊥
 not-done a h e = other (tagOf the-type a) h (ap (tagOf the-type) e)
 
-pub refused : (a : Answer) (work board : List ℕ) → OneOf (1 ∷ 2 ∷ 3 ∷ 4 ∷ []) (tagOf the-type a) → board ≡ leftBy a work board
-refused Done work board h = absurd (other 0 h refl)
-refused KeyLength work board h = refl
-refused TweakLength work board h = refl
-refused TooShort work board h = refl
-refused TooLong work board h = refl
+pub refused : (a : Answer) (work message : List ℕ) → OneOf (1 ∷ 2 ∷ 3 ∷ 4 ∷ []) (tagOf the-type a) → message ≡ leftBy a work message
+refused Done work message h = absurd (other 0 h refl)
+refused KeyLength work message h = refl
+refused TweakLength work message h = refl
+refused TooShort work message h = refl
+refused TooLong work message h = refl

@@ -31,15 +31,15 @@ hch-cipher : (key tweak : List ℕ) (n : ℕ) → OfLength 16 tweak → 16 ≤ n
 unfolding enciphered deciphered
 hch-cipher key tweak n h l = scheme-cipher (own-parts (aes key) (Blocks.theorems .aes-permutation key)) (number tweak) n (tweak-block tweak h) l
 
-pub exactly-one-board : (key tweak : List ℕ) (n : ℕ) → OfLength 16 tweak → 16 ≤ n
+pub one-plaintext : (key tweak : List ℕ) (n : ℕ) → OfLength 16 tweak → 16 ≤ n
     → (C : List ℕ) → OfLength n C → OnePreimage n (enciphered key tweak) C (deciphered key tweak C)
-exactly-one-board key tweak n h l C k = one-preimage (hch-cipher key tweak n h l) C k
+one-plaintext key tweak n h l C k = one-preimage (hch-cipher key tweak n h l) C k
 
 pub theorems : Theorems
 theorems = record {
   scheme-cipher = λ E D xTimes sum. scheme-cipher;
-  scheme-exactly-one = λ E D xTimes sum parts T n h l. one-preimage (scheme-cipher parts T n h l);
+  scheme-one-plaintext = λ E D xTimes sum parts T n h l. one-preimage (scheme-cipher parts T n h l);
   own-parts = own-parts;
   hch-cipher = hch-cipher;
-  exactly-one-board = exactly-one-board;
+  one-plaintext = one-plaintext;
 }

@@ -1,7 +1,7 @@
 -- The two calls: what they answer, and what they leave in the lent bytes.
 use Prim.Native.Nat.{ℕ}
 use mathlib.Core.Path.{_≡_}
-use mathlib.Core.Bool.{cond}
+use mathlib.Core.Bool.{cond, not}
 use mathlib.Core.List.{List}
 use lib.Dec.{ltb, eqb}
 use lib.ListN.{length}
@@ -18,23 +18,22 @@ numberOf TweakLength = 2
 numberOf TooShort = 3
 numberOf TooLong = 4
 
--- 01, "HCH looks at 1, 2, 3, 4 in this order": the key and the tweak are 16 bytes, and the data is 16 to 4,096.
-unfoldable pub answerOf : (key tweak board : List ℕ) → Answer
-answerOf key tweak board =
-    cond (eqb (length key) 16)
-    (cond (eqb (length tweak) 16)
-    (cond (ltb (length board) 16) TooShort (cond (ltb 4096 (length board)) TooLong Done))
-    TweakLength)
-    KeyLength
+-- 01, "HCH looks at 1, 2, 3, 4 in this order": the first condition that holds is the answer, and where none does the call is done.
+unfoldable pub answerOf : (key tweak message : List ℕ) → Answer
+answerOf key tweak message =
+    cond (not (eqb (length key) 16)) KeyLength
+    (cond (not (eqb (length tweak) 16)) TweakLength
+    (cond (ltb (length message) 16) TooShort
+    (cond (ltb 4096 (length message)) TooLong Done)))
 
--- What a call leaves in the lent bytes: its work where it was done, and else what they held.
-abbrev pub leftBy : Answer → (work board : List ℕ) → List ℕ
-leftBy Done work board = work
-leftBy KeyLength work board = board
-leftBy TweakLength work board = board
-leftBy TooShort work board = board
-leftBy TooLong work board = board
+-- What a call leaves in the lent bytes: its work where it was done, and what they held where it was refused.
+abbrev pub leftBy : Answer → (work message : List ℕ) → List ℕ
+leftBy Done work message = work
+leftBy KeyLength work message = message
+leftBy TweakLength work message = message
+leftBy TooShort work message = message
+leftBy TooLong work message = message
 
--- 01, demand 3: where the answer is that it was done, exactly one board of the length of C enciphers to C, and it is P.
-abbrev pub ExactlyOneBoard : Answer → (key tweak C P : List ℕ) → Type 0
-ExactlyOneBoard answer key tweak C P = answer ≡ Done → OnePreimage (length C) (enciphered key tweak) C P
+-- Demand 3: where the call was done, exactly one message of the length of C enciphers to C, and it is P.
+abbrev pub OnePlaintext : Answer → (key tweak C P : List ℕ) → Type 0
+OnePlaintext answer key tweak C P = answer ≡ Done → OnePreimage (length C) (enciphered key tweak) C P

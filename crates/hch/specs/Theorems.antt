@@ -8,16 +8,16 @@ use Rattle.blocks.specs.Permutation.{Block, BlockCipher, BlockPermutation, Ciph
 use Rattle.hch.specs.Hch.{Parts, encipher, decipher, enciphered, deciphered}
 
 pub record Theorems : Type 0 where
-  -- For every block permutation, step by x and keyed sum that keep blocks, every tweak and every n from 16 on: HCH keeps the boards of n bytes,
+  -- For every block permutation, step by x and keyed sum that keep blocks, every tweak and every n from 16 on: HCH keeps the messages of n bytes,
   -- deciphering undoes enciphering and enciphering undoes deciphering.
   pub scheme-cipher : (E D xTimes : ℕ → ℕ) (sum : ℕ → List ℕ → ℕ) → Parts E D xTimes sum → (T n : ℕ) → Block T → 16 ≤ n
       → Cipher n (encipher E xTimes sum T) (decipher E D xTimes sum T)
-  -- And exactly one board of n bytes enciphers to each, deciphering gives it, and the count is 1.
-  pub scheme-exactly-one : (E D xTimes : ℕ → ℕ) (sum : ℕ → List ℕ → ℕ) → Parts E D xTimes sum → (T n : ℕ) → Block T → 16 ≤ n
+  -- And exactly one message of n bytes enciphers to each, deciphering gives it, and the count is 1.
+  pub scheme-one-plaintext : (E D xTimes : ℕ → ℕ) (sum : ℕ → List ℕ → ℕ) → Parts E D xTimes sum → (T n : ℕ) → Block T → 16 ≤ n
       → (C : List ℕ) → OfLength n C → OnePreimage n (encipher E xTimes sum T) C (decipher E D xTimes sum T C)
   -- 01's step by x and the sum of formula (1) serve every block permutation.
   pub own-parts : (c : BlockCipher) → BlockPermutation c → Parts (c .E) (c .D) xTimes keyedSum
   -- So for HCH with AES, every key and every tweak of 16 bytes. The second is the first half of 01's demand 3.
   pub hch-cipher : (key tweak : List ℕ) (n : ℕ) → OfLength 16 tweak → 16 ≤ n → Cipher n (enciphered key tweak) (deciphered key tweak)
-  pub exactly-one-board : (key tweak : List ℕ) (n : ℕ) → OfLength 16 tweak → 16 ≤ n
+  pub one-plaintext : (key tweak : List ℕ) (n : ℕ) → OfLength 16 tweak → 16 ≤ n
       → (C : List ℕ) → OfLength n C → OnePreimage n (enciphered key tweak) C (deciphered key tweak C)

@@ -1,7 +1,6 @@
 // HCH of Chakraborty and Sarkar over AES, on lent bytes.
 ghost use Prim.Native.Nat.{_+_, _*_, _/_, _≤_};
 ghost use mathlib.Core.Path.{_≡_};
-ghost use mathlib.Core.List.{_++_};
 ghost use lib.ListN.{length, drop};
 ghost use Rattle.blocks.specs.Xor.{_⊕_};
 ghost use Rattle.blocks.specs.Bytes.{bytes, block, blocks, overwrite};
@@ -9,7 +8,7 @@ ghost use Rattle.blocks.specs.Field.{xTimes, keyedSum};
 ghost use Rattle.blocks.specs.Block.{value};
 ghost use Rattle.blocks.specs.Key.{under};
 ghost use Rattle.hch.specs.Hch.{bin, H as hash, ctrBytes, fromI, encipher, decipher, enciphered, deciphered};
-ghost use Rattle.hch.specs.Call.{numberOf, answerOf, leftBy, ExactlyOneBoard};
+ghost use Rattle.hch.specs.Call.{numberOf, answerOf, leftBy, OnePlaintext};
 use blocks::aes::ExpandedKey;
 use blocks::block::Block;
 use blocks::field;
@@ -84,11 +83,11 @@ fn hash(r: Block, q: Block, first: Block, data: &[u8]) -> Block
 }
 
 // Adds to the block at `at` what formula (3) adds to the one of that number, cut where `data` ends.
-fn mask(key: ExpandedKey, s: Block, data: &mut [u8], at: usize)
+fn mask_block(key: ExpandedKey, s: Block, data: &mut [u8], at: usize)
     ensures { λ _. ⌜ now («data» .exit) ≡ overwrite at (bytes 16 (block (drop at (now («data» .entry))) ⊕ under key .E (value s ⊕ bin (at / 16 + 1)))) (now («data» .entry)) ⌝ }
 {
-    let pad = key.encipher(xor_bin(s, at / 16 + 1));
-    Block::read(data, at).xor(pad).write(data, at);
+    let mask = key.encipher(xor_bin(s, at / 16 + 1));
+    Block::read(data, at).xor(mask).write(data, at);
 }
 
 // Formula (3) on the bytes behind the first block, the last block cut as it was.
@@ -97,7 +96,7 @@ fn counter(key: ExpandedKey, s: Block, data: &mut [u8])
 {
     let mut at = 0;
     while at < data.len() {
-        mask(key, s, data, at);
+        mask_block(key, s, data, at);
         at += 16;
     }
 }
@@ -113,7 +112,7 @@ fn finish(key: ExpandedKey, r: Block, q: Block, i: Block, first: Block, data: &m
 }
 
 // Table II, left.
-fn encipher_board(key: ExpandedKey, tweak: Block, data: &mut [u8])
+fn encipher_message(key: ExpandedKey, tweak: Block, data: &mut [u8])
     requires { ⌜ (16 ≤ length (now «data»)) × (length (now «data») ≤ 4096) ⌝ }
     ensures { λ _. ⌜ now («data» .exit) ≡ encipher (under key .E) xTimes keyedSum (value tweak) (now («data» .entry)) ⌝ }
 {
@@ -126,7 +125,7 @@ fn encipher_board(key: ExpandedKey, tweak: Block, data: &mut [u8])
 }
 
 // Table II, right.
-fn decipher_board(key: ExpandedKey, tweak: Block, data: &mut [u8])
+fn decipher_message(key: ExpandedKey, tweak: Block, data: &mut [u8])
     requires { ⌜ (16 ≤ length (now «data»)) × (length (now «data») ≤ 4096) ⌝ }
     ensures { λ _. ⌜ now («data» .exit) ≡ decipher (under key .E) (under key .D) xTimes keyedSum (value tweak) (now («data» .entry)) ⌝ }
 {
@@ -138,27 +137,27 @@ fn decipher_board(key: ExpandedKey, tweak: Block, data: &mut [u8])
     finish(key, r, q, m1.xor(u1), m1, data);
 }
 
-// Enciphers the board in place, or refuses and leaves it as it is.
+// Enciphers the data in place, or refuses and leaves it as it is.
 pub fn encipher(key: &[u8], tweak: &[u8], data: &mut [u8]) -> Answer
     ensures { λ r. ⌜ r ≡ answerOf (now (key .entry)) (now (tweak .entry)) (now («data» .entry)) ⌝ }
     ensures { λ r. ⌜ now («data» .exit) ≡ leftBy r (enciphered (now (key .entry)) (now (tweak .entry)) (now («data» .entry))) (now («data» .entry)) ⌝ }
 {
     let answer = judge(key, tweak, data);
     if let Answer::Done = answer {
-        encipher_board(ExpandedKey::new(key), Block::read(tweak, 0), data);
+        encipher_message(ExpandedKey::new(key), Block::read(tweak, 0), data);
     }
     answer
 }
 
-// Deciphers the board in place, or refuses and leaves it as it is.
+// Deciphers the data in place, or refuses and leaves it as it is.
 pub fn decipher(key: &[u8], tweak: &[u8], data: &mut [u8]) -> Answer
     ensures { λ r. ⌜ r ≡ answerOf (now (key .entry)) (now (tweak .entry)) (now («data» .entry)) ⌝ }
     ensures { λ r. ⌜ now («data» .exit) ≡ leftBy r (deciphered (now (key .entry)) (now (tweak .entry)) (now («data» .entry))) (now («data» .entry)) ⌝ }
-    ensures { λ r. ⌜ ExactlyOneBoard r (now (key .entry)) (now (tweak .entry)) (now («data» .entry)) (now («data» .exit)) ⌝ }
+    ensures { λ r. ⌜ OnePlaintext r (now (key .entry)) (now (tweak .entry)) (now («data» .entry)) (now («data» .exit)) ⌝ }
 {
     let answer = judge(key, tweak, data);
     if let Answer::Done = answer {
-        decipher_board(ExpandedKey::new(key), Block::read(tweak, 0), data);
+        decipher_message(ExpandedKey::new(key), Block::read(tweak, 0), data);
     }
     answer
 }

@@ -12,8 +12,8 @@
 //
 // The fields of HCH may have any length, and be empty; those of the others are blocks. What HCH
 // refuses is answered `no` and the number of the reason, from 1 to 4.
-mod board;
 mod fields;
+mod message;
 
 use blocks::aes::ExpandedKey;
 use blocks::block::Block;
@@ -86,7 +86,7 @@ fn reply(line: &[u8]) -> bool {
 fn run(command: &[u8], rest: &[u8]) -> bool {
     if command.len() == 2 {
         if command[0] == b'h' {
-            return board::reply(command[1], rest);
+            return message::reply(command[1], rest);
         }
     }
     let mut data = [0u8; LIMIT / 2];

@@ -1,8 +1,8 @@
 -- What is done and what is left to do make the whole: one block goes from the one to the other at each turn.
 -- Assumes nothing.
-use Prim.Native.Nat.{ℕ, suc, _+_, _-_, _/_}
+use Prim.Native.Nat.{suc, _+_, _-_, _/_}
 use mathlib.Core.Path.{_≡_, refl, _∙_}
-use mathlib.Core.List.{List, _++_, append-nil}
+use mathlib.Core.List.{_++_, append-nil}
 use native.Mathlib.Omega.{arith}
 use lib.ListN.{length, take, drop, drop-of-length-le}
 use lib.Seq.{take-all}
@@ -28,8 +28,8 @@ abbrev μ-loop : tie.MeasureT-loop
 loop-holds : tie.Need-loop-holds Inv-loop μ-loop
 loop-holds c = (refl, refl)
 
-mask-requires : tie.Need-mask-requires Inv-loop μ-loop
-mask-requires c κs = tt
+mask-block-requires : tie.Need-mask-block-requires Inv-loop μ-loop
+mask-block-requires c κs = tt
 
 add-at : tie.Need-add-at Inv-loop μ-loop
 add-at c = omega (arith, c .before .before .before .before .before .loop .inv .1)
@@ -44,10 +44,10 @@ loop-again c =
     let l = turn .before .loop in
     let args = turn .before .before .before .args in
     let next : (l .at + 16) / 16 + 1 ≡ suc (l .at / 16 + 1) = omega arith in (
-      rw (m .mask .ensures, next)
+      rw (m .mask-block .ensures, next)
           (masked-next (λ i. under (args .key) .E (value (args .s) ⊕ bin i)) (l .at / 16 + 1) (l .at) (l .«data») (turn .loop-test .taken)
           ∙ l .inv .0),
-      rw (m .mask .ensures, length-overwrite) (l .inv .1),
+      rw (m .mask-block .ensures, length-overwrite) (l .inv .1),
     )
 
 same-length : tie.Need-same-length Inv-loop μ-loop
@@ -71,7 +71,7 @@ counter-spec =
     Inv-loop
     μ-loop
     loop-holds
-    mask-requires
+    mask-block-requires
     add-at
     loop-less
     loop-again

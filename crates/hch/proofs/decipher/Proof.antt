@@ -1,4 +1,4 @@
--- The tests, and the work where they are passed. What is left is then the one board that enciphers to what was lent.
+-- The tests, and the work where they are passed. What is left is then the one message that enciphers to what was lent.
 -- Assumes nothing.
 use mathlib.Core.Path.{_≡_, refl, sym, _∙_}
 use borrow.Author.Needs.{needs}
@@ -8,7 +8,7 @@ use Rattle.blocks.specs.Aes.{aes}
 use Rattle.blocks.proofs.Bytes.{block-whole}
 use Rattle.hch.specs.Hch.{deciphered}
 use Rattle.hch.proofs.Call.{admitted, not-done, refused}
-use Rattle.hch.proofs.Theorems.{exactly-one-board}
+use Rattle.hch.proofs.Theorems.{one-plaintext}
 use Rattle.hch.proofs.decipher.Statement.{statement}
 use Rattle.hch.proofs.decipher.Tie as tie
 
@@ -24,8 +24,8 @@ new-requires c κs = search needs
 read-requires : tie.Need-read-requires
 read-requires c κs = search needs
 
-decipher-board-requires : tie.Need-decipher-board-requires
-decipher-board-requires c κs =
+decipher-message-requires : tie.Need-decipher-message-requires
+decipher-message-requires c κs =
     let told = c .before .before .before in
     let judged = told .before .before in
     let args = judged .before .before .before .before .before .args in
@@ -47,14 +47,14 @@ returns c =
     let args = lent .before .before .before .args in
     let done = told .enum-told .given .1 in
     let a = admitted (now (args .key)) (now (args .tweak)) (now (args .«data»)) (sym (judged .judge .ensures) ∙ done) in
-    let left : b .decipher-board .last .1 .1 .0 ≡ deciphered (now (args .key)) (now (args .tweak)) (now (args .«data»)) =
-    rw (b .decipher-board .ensures, new .new .ensures, read .read .ensures, block-whole (now (args .tweak)) (a .tweak-length)) in (
+    let left : b .decipher-message .last .1 .1 .0 ≡ deciphered (now (args .key)) (now (args .tweak)) (now (args .«data»)) =
+    rw (b .decipher-message .ensures, new .new .ensures, read .read .ensures, block-whole (now (args .tweak)) (a .tweak-length)) in (
       judged .judge .ensures,
       (
         rw (done, left),
         λ e.
             rw left
-            (exactly-one-board (now (args .key)) (now (args .tweak)) (length (now (args .«data»)))
+            (one-plaintext (now (args .key)) (now (args .tweak)) (length (now (args .«data»)))
             (a .tweak-length, λ i. lent .before .shared-slice-known2 .given i .fits) (a .at-least) (now (args .«data»))
             (refl, λ i. lent .slice-known .given i .fits)),
       ),
@@ -80,7 +80,7 @@ decipher-spec =
     enum-told
     new-requires
     read-requires
-    decipher-board-requires
+    decipher-message-requires
     same-length
     returns
     same-length-2

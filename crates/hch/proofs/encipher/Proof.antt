@@ -22,8 +22,8 @@ new-requires c κs = search needs
 read-requires : tie.Need-read-requires
 read-requires c κs = search needs
 
-encipher-board-requires : tie.Need-encipher-board-requires
-encipher-board-requires c κs =
+encipher-message-requires : tie.Need-encipher-message-requires
+encipher-message-requires c κs =
     let told = c .before .before .before in
     let judged = told .before .before in
     let args = judged .before .before .before .before .before .args in
@@ -45,7 +45,7 @@ returns c =
     let done = told .enum-told .given .1 in
     let a = admitted (now (args .key)) (now (args .tweak)) (now (args .«data»)) (sym (judged .judge .ensures) ∙ done) in (
       judged .judge .ensures,
-      rw (done, b .encipher-board .ensures, new .new .ensures, read .read .ensures, block-whole (now (args .tweak)) (a .tweak-length)),
+      rw (done, b .encipher-message .ensures, new .new .ensures, read .read .ensures, block-whole (now (args .tweak)) (a .tweak-length)),
     )
 
 same-length-2 : tie.Need-same-length-2
@@ -62,7 +62,7 @@ encipher-spec =
     enum-told
     new-requires
     read-requires
-    encipher-board-requires
+    encipher-message-requires
     same-length
     returns
     same-length-2

@@ -1,7 +1,7 @@
 -- A number of one word is added in the low half.
 -- Assumes nothing.
 use Prim.Native.Nat.{ℕ, _≤_, _^_, _<_, _%_}
-use mathlib.Core.Path.{_≡_, sym, _∙_}
+use mathlib.Core.Path.{_≡_, _∙_}
 use native.Mathlib.Nat.{mod-eq-of-lt, lt-of-lt-of-le, pow-le-pow-right}
 use borrow.Author.Needs.{needs}
 use lib.Dec.{lit<, lit≤}

@@ -6,8 +6,8 @@ use Rattle.blocks.specs.Field.{xTimes, keyedSum}
 use Rattle.blocks.specs.Block.{value}
 use Rattle.blocks.specs.Key.{under}
 use Rattle.hch.proofs.Steps.{deciphering}
-use Rattle.hch.proofs.decipher_board.Statement.{statement}
-use Rattle.hch.proofs.decipher_board.Tie as tie
+use Rattle.hch.proofs.decipher_message.Statement.{statement}
+use Rattle.hch.proofs.decipher_message.Tie as tie
 
 encipher-requires : tie.Need-encipher-requires
 encipher-requires c κs = search needs
@@ -60,8 +60,8 @@ returns c =
     )
     (deciphering (cipher .E) (cipher .D) xTimes keyedSum (value (start .args .tweak)) (now (start .args .«data»)) (start .pre .0))
 
-pub decipher-board-spec : {M : Type 1} → statement M
-decipher-board-spec =
+pub decipher-message-spec : {M : Type 1} → statement M
+decipher-message-spec =
     tie.close
     (tie.spec
     encipher-requires

@@ -6,8 +6,8 @@ use Rattle.blocks.specs.Field.{xTimes, keyedSum}
 use Rattle.blocks.specs.Block.{value}
 use Rattle.blocks.specs.Key.{under}
 use Rattle.hch.proofs.Steps.{enciphering}
-use Rattle.hch.proofs.encipher_board.Statement.{statement}
-use Rattle.hch.proofs.encipher_board.Tie as tie
+use Rattle.hch.proofs.encipher_message.Statement.{statement}
+use Rattle.hch.proofs.encipher_message.Tie as tie
 
 encipher-requires : tie.Need-encipher-requires
 encipher-requires c κs = search needs
@@ -59,8 +59,8 @@ returns c =
     )
     (enciphering (cipher .E) (cipher .D) xTimes keyedSum (value (start .args .tweak)) (now (start .args .«data»)) (start .pre .0))
 
-pub encipher-board-spec : {M : Type 1} → statement M
-encipher-board-spec =
+pub encipher-message-spec : {M : Type 1} → statement M
+encipher-message-spec =
     tie.close
     (tie.spec
     encipher-requires

@@ -1,8 +1,8 @@
 -- The block that is read, the mask that is added, and where the sum is written.
 -- Assumes nothing.
 use borrow.Author.Needs.{needs}
-use Rattle.hch.proofs.mask.Statement.{statement}
-use Rattle.hch.proofs.mask.Tie as tie
+use Rattle.hch.proofs.mask_block.Statement.{statement}
+use Rattle.hch.proofs.mask_block.Tie as tie
 
 add-xor-bin : tie.Need-add-xor-bin
 add-xor-bin c = search needs
@@ -38,8 +38,8 @@ returns c =
       enciphered .before .xor-bin .ensures,
     )
 
-pub mask-spec : {M : Type 1} → statement M
-mask-spec =
+pub mask-block-spec : {M : Type 1} → statement M
+mask-block-spec =
     tie.close
     (tie.spec
     add-xor-bin
