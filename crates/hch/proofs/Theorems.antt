@@ -40,6 +40,7 @@ theorems = record {
   scheme-cipher = λ E D xTimes sum. scheme-cipher;
   scheme-one-plaintext = λ E D xTimes sum parts T n h l. one-preimage (scheme-cipher parts T n h l);
   own-parts = own-parts;
+  permutation-one-plaintext = λ c p T n h l. one-preimage (scheme-cipher (own-parts c p) T n h l);
   hch-cipher = hch-cipher;
   one-plaintext = one-plaintext;
 }

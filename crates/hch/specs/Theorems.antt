@@ -15,9 +15,11 @@ pub record Theorems : Type 0 where
   -- And exactly one message of n bytes enciphers to each, deciphering gives it, and the count is 1.
   pub scheme-one-plaintext : (E D xTimes : ℕ → ℕ) (sum : ℕ → List ℕ → ℕ) → Parts E D xTimes sum → (T n : ℕ) → Block T → 16 ≤ n
       → (C : List ℕ) → OfLength n C → OnePreimage n (encipher E xTimes sum T) C (decipher E D xTimes sum T C)
-  -- 01's step by x and the sum of formula (1) serve every block permutation.
+  -- 01's step by x and the sum of formula (1) serve every block permutation in the place of AES.
   pub own-parts : (c : BlockCipher) → BlockPermutation c → Parts (c .E) (c .D) xTimes keyedSum
-  -- So for HCH with AES, every key and every tweak of 16 bytes. The second is the first half of 01's demand 3.
+  pub permutation-one-plaintext : (c : BlockCipher) → BlockPermutation c → (T n : ℕ) → Block T → 16 ≤ n
+      → (C : List ℕ) → OfLength n C → OnePreimage n (encipher (c .E) xTimes keyedSum T) C (decipher (c .E) (c .D) xTimes keyedSum T C)
+  -- AES is one of them: HCH, for every key and every tweak of 16 bytes. The second is the first half of demand 3.
   pub hch-cipher : (key tweak : List ℕ) (n : ℕ) → OfLength 16 tweak → 16 ≤ n → Cipher n (enciphered key tweak) (deciphered key tweak)
   pub one-plaintext : (key tweak : List ℕ) (n : ℕ) → OfLength 16 tweak → 16 ≤ n
       → (C : List ℕ) → OfLength n C → OnePreimage n (enciphered key tweak) C (deciphered key tweak C)
