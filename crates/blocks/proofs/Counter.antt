@@ -19,7 +19,7 @@ unfolding string
 length-string [] = refl
 length-string (b ∷ bs) = rw (length-append, length-bytes, length-string bs) (omega arith)
 
-pub string-below : (bs : List ℕ) → Bytes (string bs)
+string-below : (bs : List ℕ) → Bytes (string bs)
 unfolding string
 string-below [] i = omega arith
 string-below (b ∷ bs) i = below-append (bytes 16 b) (string bs) (bytes-below 16 b) (string-below bs) i
@@ -34,7 +34,7 @@ string-cut (suc m) s h =
     let e : 16 * suc m ≡ 16 + 16 * m = omega arith in
     rw (block-bytes s h, string-cut m (drop 16 s) (below-drop 16 s h), e, padded-add 16 (16 * m) s)
 
-pub string-blocks : (s : List ℕ) → Bytes s → take (length s) (string (blocks s)) ≡ s
+string-blocks : (s : List ℕ) → Bytes s → take (length s) (string (blocks s)) ≡ s
 unfolding blocks
 string-blocks s h = rw (string-cut ((length s + 15) / 16) s h) (take-padded (16 * ((length s + 15) / 16)) s (omega arith))
 
@@ -63,7 +63,7 @@ module _ (mask : ℕ → ℕ) where
   length-masked-list i [] = refl
   length-masked-list i (A ∷ As) = ap suc (length-masked-list (suc i) As)
 
-  pub length-masked : (i : ℕ) (s : List ℕ) → length (maskedBytes mask i s) ≡ length s
+  length-masked : (i : ℕ) (s : List ℕ) → length (maskedBytes mask i s) ≡ length s
   unfolding maskedBytes
   length-masked i s = rw (length-take, length-string, length-masked-list, length-blocks) (omega arith)
 
@@ -88,7 +88,7 @@ module _ (mask : ℕ → ℕ) where
   unfolding maskedBytes
   masked-nil i = refl
 
-  pub masked-cons : (i : ℕ) (s : List ℕ) → 0 < length s
+  masked-cons : (i : ℕ) (s : List ℕ) → 0 < length s
       → maskedBytes mask i s ≡ take (length s) (bytes 16 (block s ⊕ mask i)) ++ maskedBytes mask (suc i) (drop 16 s)
   unfolding maskedBytes masked string
   masked-cons i s h =

@@ -43,7 +43,7 @@ module _ {w n : ℕ} {F G : ℕ → ℕ} {g g′ : List ℕ → ℕ} {mask : ℕ
   rest : (s : List ℕ) → OfLength n s → OfLength (n - w) (drop w s)
   rest s h = (rw (length-drop w s, h .0), below-drop w s (h .1))
 
-  -- What goes into F, and the rest as it is masked.
+  -- What goes into F.
   into : (s : List ℕ) → OfLength n s → Small w (number (take w s) ⊕ g (drop w s))
   into s h = sum-small w (front-small w n s l h) (small (drop w s) (rest s h))
 
