@@ -1,4 +1,4 @@
-/* HCH in plain C, to measure against: the product in 128 steps with masks, the hash by Horner's rule, no tables and no intrinsics. */
+/* HCH in plain C, to measure against: the product in 128 steps with masks and no table, the hash by Horner's rule, no intrinsics. */
 #include "hch.h"
 #include "aes.h"
 #include <string.h>

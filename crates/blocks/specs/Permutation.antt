@@ -1,4 +1,4 @@
--- Permutations with their inverses: of bytes, of states, of blocks, of boards.
+-- Permutations with their inverses: of bytes, of states, of blocks, of strings.
 use Prim.Native.Nat.{ℕ, _^_, _<_}
 use mathlib.Core.Path.{_≡_}
 use mathlib.Core.List.{List}
@@ -23,6 +23,6 @@ pub record BlockCipher : Type 0 where
 abbrev pub BlockPermutation : BlockCipher → Type 0
 BlockPermutation c = Permutation Block (c .E) (c .D)
 
--- A cipher of n bytes: it makes strings of n bytes from strings of n bytes, and so does its inverse.
+-- A cipher of n bytes and its inverse: each makes strings of n bytes from strings of n bytes and undoes the other.
 abbrev pub Cipher : ℕ → (List ℕ → List ℕ) → (List ℕ → List ℕ) → Type 0
 Cipher n f g = Permutation (OfLength n) f g

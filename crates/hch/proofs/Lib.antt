@@ -1,4 +1,5 @@
 pub mod Call
 pub mod Steps
 pub mod Scheme
+pub mod Examples
 pub mod Theorems

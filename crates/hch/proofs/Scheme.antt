@@ -9,13 +9,13 @@ use lib.Pow.{pow-pos}
 use Rattle.blocks.specs.Xor.{_⊕_}
 use Rattle.blocks.specs.Bytes.{OfLength, number, blocks}
 use Rattle.blocks.specs.Permutation.{Block, Cipher}
+use Rattle.blocks.specs.Counter.{maskedBytes}
 use Rattle.blocks.proofs.Xor.{xor-assoc, xor-comm, xor-below}
 use Rattle.blocks.proofs.Bytes.{blocks-below}
 use Rattle.blocks.proofs.Counter.{counter-cipher}
 use Rattle.blocks.proofs.Pass.{pass, pass-cipher}
 use Rattle.blocks.proofs.Permutations.{agreeing}
-use Rattle.hch.specs.Hch.{bin, H, encipher, decipher, ctrBytes, Parts}
-use Rattle.hch.proofs.Steps.{ctr-masked}
+use Rattle.hch.specs.Hch.{bin, H, Ctr, encipher, decipher, ctrBytes, fromI, Parts}
 
 bin-below : (l : ℕ) → Block (bin l)
 unfolding bin
@@ -23,39 +23,42 @@ bin-below l = mod-lt l (pow-pos 128)
 
 -- The counter step is its own inverse.
 ctr-cipher : (E : ℕ → ℕ) (S n : ℕ) → Cipher n (ctrBytes E S) (ctrBytes E S)
-ctr-cipher E S n = agreeing (λ s h. ctr-masked E S s) (λ s h. ctr-masked E S s) (counter-cipher (λ i. E (S ⊕ bin i)) 1 n)
+unfolding ctrBytes
+ctr-cipher E S n = counter-cipher (λ i. E (S ⊕ bin i)) 1 n
 
 -- A hash is its first block, and the sum of the others with the key.
-module _ (sum : ℕ → List ℕ → ℕ) where
-  unfoldable others : ℕ → ℕ → List ℕ → ℕ
-  others R Q s = Q ⊕ sum R (blocks s)
+unfoldable others : (sum : ℕ → List ℕ → ℕ) → ℕ → ℕ → List ℕ → ℕ
+others sum R Q s = Q ⊕ sum R (blocks s)
 
-  first-first : (R Q A₁ : ℕ) (s : List ℕ) → H sum R Q A₁ (blocks s) ≡ A₁ ⊕ others R Q s
-  unfolding H others
-  first-first R Q A₁ s = rw (xor-comm Q A₁, xor-assoc)
+first-first : (sum : ℕ → List ℕ → ℕ) (R Q A₁ : ℕ) (s : List ℕ) → H sum R Q A₁ (blocks s) ≡ A₁ ⊕ others sum R Q s
+unfolding H others
+first-first sum R Q A₁ s = rw (xor-comm Q A₁, xor-assoc)
 
--- Each direction is one pass.
-module _ (E D xTimes : ℕ → ℕ) (sum : ℕ → List ℕ → ℕ) (T : ℕ) (s : List ℕ) where
-  abbrev R : ℕ
-  R = E T
+-- From the first hash on, either direction is one pass: F is E or D, and the two keys of the hashes are Q and xQ, or xQ and Q.
+one-pass : (E F : ℕ → ℕ) (sum : ℕ → List ℕ → ℕ) (R Q Q′ : ℕ) (s : List ℕ)
+    → let a = H sum R Q (number (take 16 s)) (blocks (drop 16 s)) in
+    fromI E sum R Q′ (a ⊕ F a) (F a) (drop 16 s) ≡ pass 16 F (others sum R Q) (others sum R Q′) (λ I. ctrBytes E (E I)) s
+unfolding fromI pass
+one-pass E F sum R Q Q′ s =
+    let a : ℕ = number (take 16 s) ⊕ others sum R Q (drop 16 s) in
+    rw (first-first sum R Q (number (take 16 s)) (drop 16 s), first-first sum R Q′ (F a) (ctrBytes E (E (a ⊕ F a)) (drop 16 s)))
 
-  abbrev Q : ℕ
-  Q = E (R ⊕ bin (8 * length s))
+encipher-pass : (E xTimes : ℕ → ℕ) (sum : ℕ → List ℕ → ℕ) (T : ℕ) (s : List ℕ)
+    → let Q = E (E T ⊕ bin (8 * length s)) in
+    encipher E xTimes sum T s ≡ pass 16 E (others sum (E T) Q) (others sum (E T) (xTimes Q)) (λ I. ctrBytes E (E I)) s
+unfolding encipher fromI ctrBytes maskedBytes Ctr
+encipher-pass E xTimes sum T s =
+    let Q = E (E T ⊕ bin (8 * length s)) in
+    one-pass E E sum (E T) Q (xTimes Q) s
 
-  abbrev P₁ : ℕ
-  P₁ = number (take 16 s)
-
-  encipher-pass : encipher E xTimes sum T s ≡ pass 16 E (others sum R Q) (others sum R (xTimes Q)) (λ I. ctrBytes E (E I)) s
-  unfolding encipher pass ctrBytes
-  encipher-pass =
-      let a : ℕ = P₁ ⊕ others sum R Q (drop 16 s) in
-      rw (first-first sum R Q P₁ (drop 16 s), first-first sum R (xTimes Q) (E a) (ctrBytes E (E (a ⊕ E a)) (drop 16 s)))
-
-  decipher-pass : decipher E D xTimes sum T s ≡ pass 16 D (others sum R (xTimes Q)) (others sum R Q) (λ I. ctrBytes E (E I)) s
-  unfolding decipher pass ctrBytes
-  decipher-pass =
-      let a : ℕ = P₁ ⊕ others sum R (xTimes Q) (drop 16 s) in
-      rw (first-first sum R (xTimes Q) P₁ (drop 16 s), xor-comm (D a) a, first-first sum R Q (D a) (ctrBytes E (E (a ⊕ D a)) (drop 16 s)))
+decipher-pass : (E D xTimes : ℕ → ℕ) (sum : ℕ → List ℕ → ℕ) (T : ℕ) (s : List ℕ)
+    → let Q = E (E T ⊕ bin (8 * length s)) in
+    decipher E D xTimes sum T s ≡ pass 16 D (others sum (E T) (xTimes Q)) (others sum (E T) Q) (λ I. ctrBytes E (E I)) s
+unfolding decipher fromI ctrBytes maskedBytes Ctr
+decipher-pass E D xTimes sum T s =
+    let Q = E (E T ⊕ bin (8 * length s)) in
+    let U₁ : ℕ = H sum (E T) (xTimes Q) (number (take 16 s)) (blocks (drop 16 s)) in
+    rw (xor-comm (D U₁) U₁) (one-pass E D sum (E T) (xTimes Q) Q s)
 
 -- The passes undo each other.
 module _ {E D xTimes : ℕ → ℕ} {sum : ℕ → List ℕ → ℕ} (parts : Parts E D xTimes sum) (T n : ℕ) (hT : Block T) where
@@ -73,7 +76,7 @@ module _ {E D xTimes : ℕ → ℕ} {sum : ℕ → List ℕ → ℕ} (parts : Pa
   scheme-cipher l =
       let Q = E (E T ⊕ bin (8 * n)) in
       agreeing
-      (λ s h. rw (h .0) at (encipher-pass E D xTimes sum T s))
+      (λ s h. rw (h .0) at (encipher-pass E xTimes sum T s))
       (λ s h. rw (h .0) at (decipher-pass E D xTimes sum T s))
       (pass-cipher l (others-below Q key-below) (others-below (xTimes Q) (parts .step-keeps Q key-below))
       (λ I. ctr-cipher E (E I) (n - 16)) (parts .permutation))

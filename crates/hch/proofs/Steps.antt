@@ -1,7 +1,7 @@
 -- What the code does with the lent bytes, as steps of Table II.
 -- Assumes nothing.
 use Prim.Native.Nat.{ℕ, _-_, _*_, _≤_}
-use mathlib.Core.Path.{_≡_, refl}
+use mathlib.Core.Path.{_≡_}
 use mathlib.Core.List.{List, _++_}
 use lib.ListN.{length, take, drop}
 use lib.Seq.{drop-at, length-take-le}
@@ -11,11 +11,6 @@ use Rattle.blocks.specs.Counter.{maskedBytes}
 use Rattle.blocks.proofs.Bytes.{length-bytes, block-first}
 use Rattle.blocks.proofs.Place.{part-behind, put-back, overwrite-front-part}
 use Rattle.hch.specs.Hch.{bin, H, Ctr, encipher, decipher, ctrBytes, fromI}
-
--- The counter step on bytes is counter mode with E of S and the number.
-pub ctr-masked : (E : ℕ → ℕ) (S : ℕ) (s : List ℕ) → ctrBytes E S s ≡ maskedBytes (λ i. E (S ⊕ bin i)) 1 s
-unfolding ctrBytes Ctr maskedBytes
-ctr-masked E S s = refl
 
 -- The counter step on the part behind the first block, the part put back, the hash of it written in front.
 pub finished : (E : ℕ → ℕ) (sum : ℕ → List ℕ → ℕ) (R Q I A₁ : ℕ) (s : List ℕ) → 16 ≤ length s
@@ -30,17 +25,18 @@ finished E sum R Q I A₁ s h =
     (overwrite-front-part 16 (take 16 s) t (bytes 16 (H sum R Q A₁ (blocks t))) front (length-bytes 16 (H sum R Q A₁ (blocks t))))
 
 -- The first block read where it stands: Table II, either side.
-module _ (E D xTimes : ℕ → ℕ) (sum : ℕ → List ℕ → ℕ) (T : ℕ) (s : List ℕ) (h : 16 ≤ length s) where
-  pub enciphering : let R = E T in
-      let Q = E (R ⊕ bin (8 * length s)) in
-      let M₁ = H sum R Q (block s) (blocks (drop 16 s)) in
-      fromI E sum R (xTimes Q) (M₁ ⊕ E M₁) (E M₁) (drop 16 s) ≡ encipher E xTimes sum T s
-  unfolding encipher fromI ctrBytes
-  enciphering = rw (block-first s h)
+pub enciphering : (E xTimes : ℕ → ℕ) (sum : ℕ → List ℕ → ℕ) (T : ℕ) (s : List ℕ) → 16 ≤ length s
+    → let R = E T in
+    let Q = E (R ⊕ bin (8 * length s)) in
+    let M₁ = H sum R Q (block s) (blocks (drop 16 s)) in
+    fromI E sum R (xTimes Q) (M₁ ⊕ E M₁) (E M₁) (drop 16 s) ≡ encipher E xTimes sum T s
+unfolding encipher fromI ctrBytes maskedBytes Ctr
+enciphering E xTimes sum T s h = rw (block-first s h)
 
-  pub deciphering : let R = E T in
-      let Q = E (R ⊕ bin (8 * length s)) in
-      let U₁ = H sum R (xTimes Q) (block s) (blocks (drop 16 s)) in
-      fromI E sum R Q (D U₁ ⊕ U₁) (D U₁) (drop 16 s) ≡ decipher E D xTimes sum T s
-  unfolding decipher fromI ctrBytes
-  deciphering = rw (block-first s h)
+pub deciphering : (E D xTimes : ℕ → ℕ) (sum : ℕ → List ℕ → ℕ) (T : ℕ) (s : List ℕ) → 16 ≤ length s
+    → let R = E T in
+    let Q = E (R ⊕ bin (8 * length s)) in
+    let U₁ = H sum R (xTimes Q) (block s) (blocks (drop 16 s)) in
+    fromI E sum R Q (D U₁ ⊕ U₁) (D U₁) (drop 16 s) ≡ decipher E D xTimes sum T s
+unfolding decipher fromI ctrBytes maskedBytes Ctr
+deciphering E D xTimes sum T s h = rw (block-first s h)

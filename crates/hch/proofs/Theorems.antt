@@ -1,19 +1,26 @@
 -- Every theorem of specs/Theorems.antt: the scheme's from its two passes, those for AES cited from them.
 -- Assumes nothing.
 use Prim.Native.Nat.{ℕ, _≤_}
-use mathlib.Core.List.{List}
+use mathlib.Core.Path.{_≡_}
+use mathlib.Core.List.{List, [], append-nil}
+use native.Mathlib.Omega.{arith}
 use lib.Dec.{lit<}
-use Rattle.blocks.specs.Bytes.{OfLength, number}
-use Rattle.blocks.specs.Field.{xTimes, keyedSum}
+use lib.ListN.{length, drop-of-length-le}
+use lib.Seq.{take-all}
+use Rattle.blocks.specs.Xor.{_⊕_}
+use Rattle.blocks.specs.Bytes.{OfLength, number, bytes, string}
+use Rattle.blocks.specs.Field.{powerSum, xTimes, keyedSum}
+use Rattle.blocks.specs.Counter.{masked}
 use Rattle.blocks.specs.One.{OnePreimage}
 use Rattle.blocks.specs.Permutation.{Block, BlockCipher, BlockPermutation, Cipher}
 use Rattle.blocks.specs.Aes.{aes}
-use Rattle.blocks.proofs.Bytes.{number-below}
+use Rattle.blocks.proofs.Xor.{xor-zero, xor-comm}
+use Rattle.blocks.proofs.Bytes.{number-below, blocks-nil}
 use Rattle.blocks.proofs.One.{one-preimage}
 use Rattle.blocks.proofs.Ring.{x-below, ring-of-blocks}
 use Rattle.blocks.proofs.Horner.{power-sum-below}
 use Rattle.blocks.proofs.Theorems as Blocks
-use Rattle.hch.specs.Hch.{Parts, enciphered, deciphered}
+use Rattle.hch.specs.Hch.{bin, H, Ctr, encipher, Parts, enciphered, deciphered}
 use Rattle.hch.specs.Theorems.{Theorems}
 use Rattle.hch.proofs.Scheme.{scheme-cipher}
 
@@ -35,10 +42,19 @@ pub one-plaintext : (key tweak : List ℕ) (n : ℕ) → OfLength 16 tweak → 1
     → (C : List ℕ) → OfLength n C → OnePreimage n (enciphered key tweak) C (deciphered key tweak C)
 one-plaintext key tweak n h l C k = one-preimage (hch-cipher key tweak n h l) C k
 
+one-block : (E xTimes : ℕ → ℕ) (T : ℕ) (P : List ℕ) → length P ≡ 16
+    → let Q = E (E T ⊕ bin 128) in encipher E xTimes keyedSum T P ≡ bytes 16 (xTimes Q ⊕ E (number P ⊕ Q))
+unfolding encipher H Ctr masked string powerSum
+one-block E step T P h =
+    let Q : ℕ = E (E T ⊕ bin 128) in
+    let short : length P ≤ 16 = omega (arith, h) in
+    rw (h, take-all 16 P short, drop-of-length-le P short, blocks-nil, append-nil) (simp (xor-zero, xor-comm Q (number P)))
+
 pub theorems : Theorems
 theorems = record {
   scheme-cipher = λ E D xTimes sum. scheme-cipher;
   scheme-one-plaintext = λ E D xTimes sum parts T n h l. one-preimage (scheme-cipher parts T n h l);
+  one-block = one-block;
   own-parts = own-parts;
   permutation-one-plaintext = λ c p T n h l. one-preimage (scheme-cipher (own-parts c p) T n h l);
   hch-cipher = hch-cipher;

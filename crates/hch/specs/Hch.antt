@@ -1,5 +1,6 @@
 -- HCH of Chakraborty and Sarkar, source document 001, over any block cipher E with its inverse D, any step by x and any keyed sum of blocks.
--- A block is a number below 2 ^ 128 and a message P is a string of bytes, 16 or more. The paper's n is 128.
+-- A block is a number below 2 ^ 128 and a message P is a string of bytes, 16 or more. The paper's n is 128. Where the message is one block,
+-- nothing stands behind it: there is no sum, steps 2, 5 and 6 do nothing, and what is left is the paper's section II-A.
 use Prim.Native.Nat.{ℕ, _*_, _%_, _^_}
 use mathlib.Core.List.{List, _++_}
 use lib.ListN.{length, take, drop}
@@ -7,19 +8,19 @@ use Rattle.blocks.specs.Xor.{_⊕_}
 use Rattle.blocks.specs.Bytes.{Below, number, bytes, blocks, string}
 use Rattle.blocks.specs.Field.{xTimes, keyedSum}
 use Rattle.blocks.specs.Permutation.{Permutation, Block}
-use Rattle.blocks.specs.Counter.{masked}
+use Rattle.blocks.specs.Counter.{masked, maskedBytes}
 use Rattle.blocks.specs.Aes.{aes}
 
--- 01, "bin(l) is l as a 16-byte big-endian number"; as a block it is l itself.
+-- 01, "bin(l) is l as a 16-byte big-endian number": as a block it is l itself, cut where 16 bytes do not hold it.
 unfoldable pub bin : ℕ → ℕ
 bin l = l % 2 ^ 128
 
--- Formula (1): H with R and Q over A₁, A₂, …, Aₘ.
+-- Formula (1): H with R and Q over A₁, A₂, …, Aₘ. For HCH the keyed sum is A₂ R ^ (m - 1) ⊕ … ⊕ Aₘ R, `keyedSum` of the blocks' Field.antt.
 module _ (sum : ℕ → List ℕ → ℕ) where
   unfoldable pub H : ℕ → ℕ → ℕ → List ℕ → ℕ
   H R Q A₁ A₂…Aₘ = Q ⊕ A₁ ⊕ sum R A₂…Aₘ
 
--- Formula (3), where the paper's S_i is S ⊕ bin(i), as 01 has it.
+-- Formula (3), where the paper leaves Sᵢ open, and 01 has S ⊕ bin(i - 1) for the block i of the message: the list begins at its second block.
 module _ (E : ℕ → ℕ) where
   unfoldable pub Ctr : ℕ → List ℕ → List ℕ
   Ctr S As = masked (λ i. E (S ⊕ bin i)) 1 As
@@ -94,11 +95,12 @@ deciphered key tweak C = decipher (aes key .E) (aes key .D) xTimes keyedSum (num
 
 -- ---- what else the contracts of the code cite
 
--- Steps 5 and 6 on bytes.
+-- Steps 5 and 6 on the bytes behind the first block.
 unfoldable pub ctrBytes : (E : ℕ → ℕ) → ℕ → List ℕ → List ℕ
-ctrBytes E S s = take (length s) (string (Ctr E S (blocks s)))
+ctrBytes E S = maskedBytes (λ i. E (S ⊕ bin i)) 1
 
--- From I on, which is the same both ways: Q is the one of step 7, A₁ its first block, and s what stands behind the first 16 bytes.
+-- From I on, which is the same both ways: Q stands for the key of step 7, which is xQ in enciphering, A₁ for its first block, and s for the
+-- bytes behind the first block.
 unfoldable pub fromI : (E : ℕ → ℕ) (sum : ℕ → List ℕ → ℕ) (R Q I A₁ : ℕ) → List ℕ → List ℕ
 fromI E sum R Q I A₁ s =
     let t = ctrBytes E (E I) s in

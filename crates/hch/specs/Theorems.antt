@@ -1,11 +1,14 @@
 -- The theorems of this crate, each by name. One value of this record, proofs/Theorems.antt, proves them all.
 use Prim.Native.Nat.{ℕ, _≤_}
+use mathlib.Core.Path.{_≡_}
 use mathlib.Core.List.{List}
-use Rattle.blocks.specs.Bytes.{OfLength}
+use lib.ListN.{length}
+use Rattle.blocks.specs.Xor.{_⊕_}
+use Rattle.blocks.specs.Bytes.{OfLength, number, bytes}
 use Rattle.blocks.specs.Field.{xTimes, keyedSum}
 use Rattle.blocks.specs.One.{OnePreimage}
 use Rattle.blocks.specs.Permutation.{Block, BlockCipher, BlockPermutation, Cipher}
-use Rattle.hch.specs.Hch.{Parts, encipher, decipher, enciphered, deciphered}
+use Rattle.hch.specs.Hch.{bin, Parts, encipher, decipher, enciphered, deciphered}
 
 pub record Theorems : Type 0 where
   -- For every block permutation, step by x and keyed sum that keep blocks, every tweak and every n from 16 on: HCH keeps the messages of n bytes,
@@ -15,6 +18,9 @@ pub record Theorems : Type 0 where
   -- And exactly one message of n bytes enciphers to each, deciphering gives it, and the count is 1.
   pub scheme-one-plaintext : (E D xTimes : ℕ → ℕ) (sum : ℕ → List ℕ → ℕ) → Parts E D xTimes sum → (T n : ℕ) → Block T → 16 ≤ n
       → (C : List ℕ) → OfLength n C → OnePreimage n (encipher E xTimes sum T) C (decipher E D xTimes sum T C)
+  -- The paper's section II-A: a message of one block.
+  pub one-block : (E xTimes : ℕ → ℕ) (T : ℕ) (P : List ℕ) → length P ≡ 16
+      → let Q = E (E T ⊕ bin 128) in encipher E xTimes keyedSum T P ≡ bytes 16 (xTimes Q ⊕ E (number P ⊕ Q))
   -- 01's step by x and the sum of formula (1) serve every block permutation in the place of AES.
   pub own-parts : (c : BlockCipher) → BlockPermutation c → Parts (c .E) (c .D) xTimes keyedSum
   pub permutation-one-plaintext : (c : BlockCipher) → BlockPermutation c → (T n : ℕ) → Block T → 16 ≤ n

@@ -7,7 +7,7 @@ ghost use Rattle.blocks.specs.Bytes.{bytes, block, blocks, overwrite};
 ghost use Rattle.blocks.specs.Field.{xTimes, keyedSum};
 ghost use Rattle.blocks.specs.Block.{value};
 ghost use Rattle.blocks.specs.Key.{under};
-ghost use Rattle.hch.specs.Hch.{bin, H as hash, ctrBytes, fromI, encipher, decipher, enciphered, deciphered};
+ghost use Rattle.hch.specs.Hch.{bin, H as polynomialHash, ctrBytes, fromI, encipher, decipher, enciphered, deciphered};
 ghost use Rattle.hch.specs.Call.{numberOf, answerOf, leftBy, OnePlaintext};
 use blocks::aes::ExpandedKey;
 use blocks::block::Block;
@@ -67,7 +67,7 @@ fn xor_bin(a: Block, n: usize) -> Block
 }
 
 // Step 1: Q, from R and the length in bytes.
-fn length_key(key: ExpandedKey, r: Block, length: usize) -> Block
+fn hash_q(key: ExpandedKey, r: Block, length: usize) -> Block
     requires { ⌜ length ≤ 4096 ⌝ }
     ensures { λ x. ⌜ value x ≡ under key .E (value r ⊕ bin (8 * length)) ⌝ }
 {
@@ -77,12 +77,12 @@ fn length_key(key: ExpandedKey, r: Block, length: usize) -> Block
 // Formula (1): the first block by itself, the others where they stand in `data`, behind the first 16 bytes.
 fn hash(r: Block, q: Block, first: Block, data: &[u8]) -> Block
     requires { ⌜ 16 ≤ length (now «data») ⌝ }
-    ensures { λ x. ⌜ value x ≡ hash keyedSum (value r) (value q) (value first) (blocks (drop 16 (now («data» .entry)))) ⌝ }
+    ensures { λ x. ⌜ value x ≡ polynomialHash keyedSum (value r) (value q) (value first) (blocks (drop 16 (now («data» .entry)))) ⌝ }
 {
     q.xor(first).xor(field::power_sum(r, &data[16..]))
 }
 
-// Adds to the block at `at` what formula (3) adds to the one of that number, cut where `data` ends.
+// Adds E(S ⊕ bin(at / 16 + 1)) to the block at `at`, cut where `data` ends.
 fn mask_block(key: ExpandedKey, s: Block, data: &mut [u8], at: usize)
     ensures { λ _. ⌜ now («data» .exit) ≡ overwrite at (bytes 16 (block (drop at (now («data» .entry))) ⊕ under key .E (value s ⊕ bin (at / 16 + 1)))) (now («data» .entry)) ⌝ }
 {
@@ -90,7 +90,7 @@ fn mask_block(key: ExpandedKey, s: Block, data: &mut [u8], at: usize)
     Block::read(data, at).xor(mask).write(data, at);
 }
 
-// Formula (3) on the bytes behind the first block, the last block cut as it was.
+// Formula (3) on bytes, block by block where they stand, the last cut as it was.
 fn counter(key: ExpandedKey, s: Block, data: &mut [u8])
     ensures { λ _. ⌜ now («data» .exit) ≡ ctrBytes (under key .E) (value s) (now («data» .entry)) ⌝ }
 {
@@ -117,7 +117,7 @@ fn encipher_message(key: ExpandedKey, tweak: Block, data: &mut [u8])
     ensures { λ _. ⌜ now («data» .exit) ≡ encipher (under key .E) xTimes keyedSum (value tweak) (now («data» .entry)) ⌝ }
 {
     let r = key.encipher(tweak);
-    let q = length_key(key, r, data.len());
+    let q = hash_q(key, r, data.len());
     let m1 = hash(r, q, Block::read(data, 0), data);
     let u1 = key.encipher(m1);
     let xq = field::times_x(q);
@@ -130,7 +130,7 @@ fn decipher_message(key: ExpandedKey, tweak: Block, data: &mut [u8])
     ensures { λ _. ⌜ now («data» .exit) ≡ decipher (under key .E) (under key .D) xTimes keyedSum (value tweak) (now («data» .entry)) ⌝ }
 {
     let r = key.encipher(tweak);
-    let q = length_key(key, r, data.len());
+    let q = hash_q(key, r, data.len());
     let xq = field::times_x(q);
     let u1 = hash(r, xq, Block::read(data, 0), data);
     let m1 = key.decipher(u1);

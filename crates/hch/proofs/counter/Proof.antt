@@ -12,7 +12,7 @@ use Rattle.blocks.specs.Block.{value}
 use Rattle.blocks.specs.Key.{under}
 use Rattle.blocks.proofs.Counter.{masked-nil, masked-next}
 use Rattle.blocks.proofs.Place.{length-overwrite}
-use Rattle.hch.specs.Hch.{bin, Ctr, ctrBytes}
+use Rattle.hch.specs.Hch.{bin, ctrBytes}
 use Rattle.hch.proofs.counter.Statement.{statement}
 use Rattle.hch.proofs.counter.Tie as tie
 
@@ -54,7 +54,7 @@ same-length : tie.Need-same-length Inv-loop μ-loop
 same-length c = c .before .loop .inv .1
 
 returns : tie.Need-returns Inv-loop μ-loop
-unfolding Ctr ctrBytes maskedBytes
+unfolding ctrBytes
 returns c =
     let l = c .before .loop in
     rw (

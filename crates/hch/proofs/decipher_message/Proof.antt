@@ -12,8 +12,8 @@ use Rattle.hch.proofs.decipher_message.Tie as tie
 encipher-requires : tie.Need-encipher-requires
 encipher-requires c κs = search needs
 
-length-key-requires : tie.Need-length-key-requires
-length-key-requires c κs = search needs
+hash-q-requires : tie.Need-hash-q-requires
+hash-q-requires c κs = search needs
 
 times-x-requires : tie.Need-times-x-requires
 times-x-requires c κs = search needs
@@ -55,7 +55,7 @@ returns c =
       h .hash .ensures,
       r .read .ensures,
       tx .times-x .ensures,
-      l .length-key .ensures,
+      l .hash-q .ensures,
       e .encipher .ensures,
     )
     (deciphering (cipher .E) (cipher .D) xTimes keyedSum (value (start .args .tweak)) (now (start .args .«data»)) (start .pre .0))
@@ -65,7 +65,7 @@ decipher-message-spec =
     tie.close
     (tie.spec
     encipher-requires
-    length-key-requires
+    hash-q-requires
     times-x-requires
     read-requires
     hash-requires

@@ -12,8 +12,8 @@ use Rattle.hch.proofs.encipher_message.Tie as tie
 encipher-requires : tie.Need-encipher-requires
 encipher-requires c κs = search needs
 
-length-key-requires : tie.Need-length-key-requires
-length-key-requires c κs = search needs
+hash-q-requires : tie.Need-hash-q-requires
+hash-q-requires c κs = search needs
 
 read-requires : tie.Need-read-requires
 read-requires c κs = search needs
@@ -54,17 +54,17 @@ returns c =
       e2 .encipher2 .ensures,
       h .hash .ensures,
       r .read .ensures,
-      l .length-key .ensures,
+      l .hash-q .ensures,
       e .encipher .ensures,
     )
-    (enciphering (cipher .E) (cipher .D) xTimes keyedSum (value (start .args .tweak)) (now (start .args .«data»)) (start .pre .0))
+    (enciphering (cipher .E) xTimes keyedSum (value (start .args .tweak)) (now (start .args .«data»)) (start .pre .0))
 
 pub encipher-message-spec : {M : Type 1} → statement M
 encipher-message-spec =
     tie.close
     (tie.spec
     encipher-requires
-    length-key-requires
+    hash-q-requires
     read-requires
     hash-requires
     encipher-requires-2

@@ -1,8 +1,8 @@
 -- E of R and the length in bits.
 -- Assumes nothing.
 use borrow.Author.Needs.{needs}
-use Rattle.hch.proofs.length_key.Statement.{statement}
-use Rattle.hch.proofs.length_key.Tie as tie
+use Rattle.hch.proofs.hash_q.Statement.{statement}
+use Rattle.hch.proofs.hash_q.Tie as tie
 
 mul-xor-bin : tie.Need-mul-xor-bin
 mul-xor-bin c = search needs
@@ -16,5 +16,5 @@ encipher-requires c κs = search needs
 returns : tie.Need-returns
 returns c = rw (c .encipher .ensures, c .before .xor-bin .ensures)
 
-pub length-key-spec : {M : Type 1} → statement M
-length-key-spec = tie.close (tie.spec mul-xor-bin xor-bin-requires encipher-requires returns)
+pub hash-q-spec : {M : Type 1} → statement M
+hash-q-spec = tie.close (tie.spec mul-xor-bin xor-bin-requires encipher-requires returns)
