@@ -176,8 +176,7 @@ unfolding block pad
 block-first s h = ap number (rw (length-take-le 16 s h, append-nil))
 
 pub block-whole : (s : List ℕ) → length s ≡ 16 → block s ≡ number s
-unfolding block pad
-block-whole s h = ap number (rw (take-all 16 s (omega arith), h, append-nil))
+block-whole s h = rw (block-first s (omega (arith, h)), take-all 16 s (omega (arith, h)))
 
 pub block-below : (s : List ℕ) → Bytes s → block s < 2 ^ 128
 block-below s h = rw (block-padded s) (rw length-padded at (number-below (padded 16 s) (padded-below 16 s h)))

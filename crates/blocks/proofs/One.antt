@@ -1,4 +1,4 @@
--- A test that exactly one passes has the count 1, among numbers and among byte strings.
+-- A test that exactly one passes has the count 1, among numbers and among byte strings; a cipher of n bytes has one preimage of each string.
 -- Assumes nothing.
 use Prim.Native.Nat.{ℕ, zero, suc, _^_, _<_}
 use mathlib.Core.Path.{_≡_, refl, sym, ap, _∙_}

@@ -1,4 +1,4 @@
--- Bytes at a place of a string: what `Block::read` and `Block::write` go by.
+-- Bytes at a place of a string: what `Block::read` and `Block::write` go by, and a part of a string that is lent by itself.
 -- Assumes nothing.
 use Prim.Native.Nat.{ℕ, zero, suc, _+_, _-_, _*_, _/_, _%_, _^_, _≤_, _<_}
 use mathlib.Core.Path.{_≡_, ap}
@@ -41,14 +41,12 @@ pub overwrite-nil : (i : ℕ) (s : List ℕ) → overwrite i [] s ≡ s
 unfolding overwrite
 overwrite-nil i s = rw (take-nil, add-zero, take-append-drop)
 
-pub overwrite-whole : (t s : List ℕ) → length t ≡ length s → overwrite 0 t s ≡ t
-unfolding overwrite
-overwrite-whole t s h =
-    rw (sub-zero, zero-add, h, drop-length s, append-nil) (take-all (length s) t (omega arith))
-
-pub overwrite-head : (t s : List ℕ) → length t ≤ length s → overwrite 0 t s ≡ t ++ drop (length t) s
+overwrite-head : (t s : List ℕ) → length t ≤ length s → overwrite 0 t s ≡ t ++ drop (length t) s
 unfolding overwrite
 overwrite-head t s h = rw (sub-zero, zero-add, take-all (length s) t h)
+
+pub overwrite-whole : (t s : List ℕ) → length t ≡ length s → overwrite 0 t s ≡ t
+overwrite-whole t s h = rw (overwrite-head t s (omega (arith, h)), h, drop-length s, append-nil)
 
 overwrite-empty : (i : ℕ) (t : List ℕ) → overwrite i t [] ≡ []
 unfolding overwrite

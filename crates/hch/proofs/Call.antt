@@ -25,18 +25,17 @@ by-tests true true true d e = absurd (omega (arith, ap numberOf e))
 by-tests true true false true e = absurd (omega (arith, ap numberOf e))
 by-tests true true false false e = (refl, refl, refl, refl)
 
-pub record Admitted (key tweak message : List ℕ) : Type 0 where
-  pub key-length : length key ≡ 16
+-- What the work needs to know of what was lent.
+pub record Admitted (tweak message : List ℕ) : Type 0 where
   pub tweak-length : length tweak ≡ 16
   pub at-least : 16 ≤ length message
   pub at-most : length message ≤ 4096
 
-pub admitted : (key tweak message : List ℕ) → answerOf key tweak message ≡ Done → Admitted key tweak message
+pub admitted : (key tweak message : List ℕ) → answerOf key tweak message ≡ Done → Admitted tweak message
 unfolding answerOf
 admitted key tweak message e =
     let t = by-tests (eqb (length key) 16) (eqb (length tweak) 16) (ltb (length message) 16) (ltb 4096 (length message)) e in
     record {
-      key-length = eqb-true (length key) 16 (t .0);
       tweak-length = eqb-true (length tweak) 16 (t .1);
       at-least = ltb-false (length message) 16 (t .2);
       at-most = ltb-false 4096 (length message) (t .3);
