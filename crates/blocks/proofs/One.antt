@@ -3,14 +3,15 @@
 use Prim.Native.Nat.{ℕ, zero, suc, _^_, _<_}
 use mathlib.Core.Path.{_≡_, refl, sym, ap, _∙_}
 use mathlib.Core.Bool.{Bool, true, false, _&&_, false≢true}
-use mathlib.Core.List.{List, [], _∷_}
+use mathlib.Core.List.{List, [], _∷_, _++_}
 use mathlib.Core.Logic.{⊎-elim}
 use native.Mathlib.Nat.{eq-or-lt-of-le, le-of-suc-le-suc, not-suc-le-zero, mod-eq-of-lt}
 use native.Mathlib.Omega.{arith}
 use borrow.Author.Tests.{eqb-true, eq-eqb}
 use lib.Dec.{eqb}
+use lib.ListN.{length, take, drop}
 use Rattle.blocks.specs.Bytes.{OfLength, number, bytes, equal}
-use Rattle.blocks.specs.One.{ExactlyOne, tally, count, OnePreimage}
+use Rattle.blocks.specs.One.{ExactlyOne, tally, count, OneString, OnePreimage}
 use Rattle.blocks.specs.Permutation.{Cipher}
 use Rattle.blocks.proofs.Bytes.{length-bytes, bytes-below, number-below, number-bytes, bytes-number}
 
@@ -54,13 +55,16 @@ count-strings test n s one =
           ∙ ap number (one .only (bytes n v) (length-bytes n v, bytes-below n v) t);
     })
 
+pub one-string : {n : ℕ} {test : List ℕ → Bool} {s : List ℕ} → ExactlyOne (OfLength n) test s → OneString n test s
+one-string {n} {test} {s} one = record { one = one; counted = count-strings test n s one }
+
 -- Equal strings pass the test, and no others.
 pub equal-refl : (s : List ℕ) → equal s s ≡ true
 unfolding equal
 equal-refl [] = refl
 equal-refl (a ∷ s) = rw (eq-eqb a a refl, equal-refl s)
 
-both : (a b : Bool) → (a && b) ≡ true → (a ≡ true) × (b ≡ true)
+pub both : (a b : Bool) → (a && b) ≡ true → (a ≡ true) × (b ≡ true)
 both true b e = (refl, e)
 both false b e = absurd (false≢true e)
 
@@ -73,12 +77,23 @@ equal-true (a ∷ s) (b ∷ t) e =
     let parts = both (eqb a b) (equal s t) e in
     rw (eqb-true a b (parts .0), equal-true s t (parts .1))
 
+-- A string is two in a row where its front is the first and what stands behind it the second.
+grouped : (a b c : Bool) → (a && (b && c)) ≡ (a && b && c)
+grouped true b c = refl
+grouped false b c = refl
+
+pub equal-append : (s t u : List ℕ) → equal s (t ++ u) ≡ (equal (take (length t) s) t && equal (drop (length t) s) u)
+unfolding equal
+equal-append s [] u = refl
+equal-append [] (b ∷ t) u = refl
+equal-append (a ∷ s) (b ∷ t) u =
+    rw (equal-append s t u) (grouped (eqb a b) (equal (take (length t) s) t) (equal (drop (length t) s) u))
+
 -- A cipher of n bytes sends exactly one string of n bytes to each.
 pub one-preimage : {n : ℕ} {f g : List ℕ → List ℕ} → Cipher n f g → (s : List ℕ) → OfLength n s → OnePreimage n f s (g s)
 one-preimage {n} {f} {g} c s h =
-    let only : ExactlyOne (OfLength n) (λ t. equal (f t) s) (g s) = record {
+    one-string (record {
       among = c .inverse-keeps s h;
       passes = rw (c .undoes s h) (equal-refl s);
       only = λ t k e. sym (c .undone t k) ∙ ap g (equal-true (f t) s e);
-    } in
-    record { one = only; counted = count-strings (λ t. equal (f t) s) n (g s) only }
+    })

@@ -60,7 +60,7 @@ overwrite-front : (b : ℕ) (t : List ℕ) (a : ℕ) (s : List ℕ) → overwrit
 unfolding overwrite
 overwrite-front b t a s = simp (sub-zero, zero-add)
 
-overwrite-cons : (i b : ℕ) (t s : List ℕ) → overwrite i (b ∷ t) s ≡ set (overwrite (suc i) t s) i b
+pub overwrite-cons : (i b : ℕ) (t s : List ℕ) → overwrite i (b ∷ t) s ≡ set (overwrite (suc i) t s) i b
 overwrite-cons i b t [] = rw (overwrite-empty i (b ∷ t), overwrite-empty (suc i) t)
 overwrite-cons zero b t (a ∷ s) = rw (overwrite-front b t a s, overwrite-skip 0 t a s)
 overwrite-cons (suc i) b t (a ∷ s) = rw (overwrite-skip i (b ∷ t) a s, overwrite-skip (suc i) t a s, overwrite-cons i b t s)

@@ -21,7 +21,11 @@ unfoldable pub count : (ℕ → Bool) → ℕ → ℕ
 count test zero = 0
 count test (suc n) = tally (test n) + count test n
 
--- Exactly one string of n bytes is sent to s by f, and it is t; counted over all strings of n bytes, there is 1.
-pub record OnePreimage (n : ℕ) (f : List ℕ → List ℕ) (s t : List ℕ) : Type 0 where
-  pub one : ExactlyOne (OfLength n) (λ u. equal (f u) s) t
-  pub counted : count (λ v. equal (f (bytes n v)) s) (256 ^ n) ≡ 1
+-- Exactly one string of n bytes passes the test, and it is s; counted over all strings of n bytes, there is 1.
+pub record OneString (n : ℕ) (test : List ℕ → Bool) (s : List ℕ) : Type 0 where
+  pub one : ExactlyOne (OfLength n) test s
+  pub counted : count (λ v. test (bytes n v)) (256 ^ n) ≡ 1
+
+-- Exactly one string of n bytes is sent to s by f, and it is t.
+abbrev pub OnePreimage : ℕ → (List ℕ → List ℕ) → (s t : List ℕ) → Type 0
+OnePreimage n f s t = OneString n (λ u. equal (f u) s) t

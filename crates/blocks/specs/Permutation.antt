@@ -26,3 +26,7 @@ BlockPermutation c = Permutation Block (c .E) (c .D)
 -- A cipher of n bytes and its inverse: each makes strings of n bytes from strings of n bytes and undoes the other.
 abbrev pub Cipher : ℕ → (List ℕ → List ℕ) → (List ℕ → List ℕ) → Type 0
 Cipher n f g = Permutation (OfLength n) f g
+
+-- A tweakable cipher of n bytes: a cipher and its inverse for each tweak of 16 bytes.
+abbrev pub TweakableCipher : ℕ → (E D : List ℕ → List ℕ → List ℕ) → Type 0
+TweakableCipher n E D = (T : List ℕ) → OfLength 16 T → Cipher n (E T) (D T)

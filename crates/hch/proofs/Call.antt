@@ -8,7 +8,7 @@ use mathlib.Core.Logic.{inl, inr}
 use native.Mathlib.Omega.{arith}
 use lib.Dec.{ltb, eqb}
 use lib.ListN.{length}
-use borrow.Author.Tests.{ltb-false, eqb-true}
+use borrow.Author.Tests.{ltb-false, eqb-true, le-ltb, eq-eqb}
 use denote.Enum.Declared.{tagOf}
 use types.Run.{OneOf}
 use Rattle.hch.specs.Call.{numberOf, answerOf, leftBy}
@@ -40,6 +40,15 @@ admitted key tweak message e =
       at-least = ltb-false (length message) 16 (t .2);
       at-most = ltb-false 4096 (length message) (t .3);
     }
+
+-- And such a call does its work: what a caller may cite who knows the lengths.
+pub worked : (key tweak message work left : List ℕ) (answer : Answer) → answer ≡ answerOf key tweak message → left ≡ leftBy answer work message
+    → length key ≡ 16 → length tweak ≡ 16 → 16 ≤ length message → length message ≤ 4096 → left ≡ work
+unfolding answerOf
+worked key tweak message work left answer e l k t low high =
+    let done : answer ≡ Done =
+    rw (e, eq-eqb (length key) 16 k, eq-eqb (length tweak) 16 t, le-ltb (length message) 16 low, le-ltb 4096 (length message) high) in
+    rw done at l
 
 -- The bytes are left as they were by every answer but the first.
 other : (n : ℕ) → OneOf (1 ∷ 2 ∷ 3 ∷ 4 ∷ []) n → n ≡ 0 → ⊥

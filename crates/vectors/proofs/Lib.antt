@@ -1,1 +1,2 @@
 pub mod Fips197
+pub mod Examples

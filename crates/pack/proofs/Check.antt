@@ -1,0 +1,190 @@
+-- The plain block and its check.
+-- Assumes nothing.
+use Prim.Native.Nat.{ℕ, zero, suc, _+_, _-_, _*_, _^_, _≤_}
+use mathlib.Core.Path.{_≡_, refl, sym, ap, _∙_}
+use mathlib.Core.Bool.{Bool, true, false, _&&_}
+use mathlib.Core.List.{List, _++_, append-assoc}
+use native.Mathlib.Nat.{zero-div, zero-add, mod-eq-of-lt}
+use native.Mathlib.Omega.{arith}
+use borrow.Author.Tests.{le-leb, leb-true}
+use lib.Dec.{leb}
+use lib.ListN.{length, getD, take, drop, replicate, length-append, length-replicate, length-drop, length-take, take-append-drop}
+use lib.Seq.{drop-cons, drop-drop, drop-at, take-all, take-at, length-take-le}
+use Rattle.blocks.specs.Bytes.{Bytes, OfLength, number, bytes, equal, overwrite}
+use Rattle.blocks.proofs.Bytes.{length-bytes, bytes-below, bytes-number, number-bytes, below-append, below-take, below-drop}
+use Rattle.blocks.proofs.Place.{overwrite-append, overwrite-whole}
+use Rattle.blocks.proofs.One.{both, equal-append, equal-refl, equal-true}
+use Rattle.pack.specs.Layout.{check, plainBlock, tweak, used, passes}
+
+-- u is two bytes.
+pub used-bytes : (B : List ℕ) → 510 ≤ length B → used B ≡ getD B 508 0 * 256 + getD B 509 0
+unfolding used number
+used-bytes B h = rw (drop-cons B 508 0 (omega arith), drop-cons B 509 0 (omega arith)) (omega arith)
+
+-- The number 0 is zeros.
+zeros : (n : ℕ) → bytes n 0 ≡ replicate n 0
+unfolding bytes
+zeros zero = refl
+zeros (suc n) = rw (zero-div (256 ^ n), zeros n)
+
+-- Its length, and where each part of it begins.
+length-check : (u pack place : ℕ) → length (check u pack place) ≡ 496 - u + 16
+unfolding check
+length-check u pack place = simp (length-append, length-replicate, length-bytes) (omega arith)
+
+pub length-plain : (payload : List ℕ) (pack place : ℕ) → length payload ≤ 496 → length (plainBlock payload pack place) ≡ 512
+unfolding plainBlock
+length-plain payload pack place h = rw (length-append, length-check (length payload) pack place) (omega arith)
+
+-- Writing one behind the other.
+overwrite-behind : (i j : ℕ) (t u s : List ℕ) → i + length t ≡ j → overwrite i (t ++ u) s ≡ overwrite j u (overwrite i t s)
+overwrite-behind i j t u s e = rw (overwrite-append i t u s, e)
+
+-- The parts, written each at its place into any 512 bytes.
+pub laid-out : (payload s : List ℕ) (pack place : ℕ) → length payload ≤ 496 → length s ≡ 512 → let u = length payload in
+    overwrite 510 (bytes 2 0) (overwrite 508 (bytes 2 u) (overwrite 504 (bytes 4 place) (overwrite 496 (bytes 8 pack)
+    (overwrite u (bytes (496 - u) 0) (overwrite 0 payload s))))) ≡ plainBlock payload pack place
+unfolding plainBlock check
+laid-out payload s pack place h l =
+    let u = length payload in
+    let filling : List ℕ = replicate (496 - u) 0 in
+    let at496 : u + length filling ≡ 496 = rw length-replicate (omega arith) in
+    let at504 : u + length (filling ++ bytes 8 pack) ≡ 504 = rw (length-append, length-replicate, length-bytes) (omega arith) in
+    let at508 : u + length (filling ++ bytes 8 pack ++ bytes 4 place) ≡ 508 =
+    simp (length-append, length-replicate, length-bytes) (omega arith) in
+    let at510 : u + length (filling ++ bytes 8 pack ++ bytes 4 place ++ bytes 2 u) ≡ 510 =
+    simp (length-append, length-replicate, length-bytes) (omega arith) in
+    sym (sym (overwrite-whole (plainBlock payload pack place) s (length-plain payload pack place h ∙ sym l))
+    ∙ rw (
+      zeros (496 - u),
+      zeros 2,
+      overwrite-behind 0 u payload (check u pack place) s (zero-add u),
+      overwrite-behind u 510 (filling ++ bytes 8 pack ++ bytes 4 place ++ bytes 2 u) (replicate 2 0) (overwrite 0 payload s) at510,
+      overwrite-behind u 508 (filling ++ bytes 8 pack ++ bytes 4 place) (bytes 2 u) (overwrite 0 payload s) at508,
+      overwrite-behind u 504 (filling ++ bytes 8 pack) (bytes 4 place) (overwrite 0 payload s) at504,
+      overwrite-behind u 496 filling (bytes 8 pack) (overwrite 0 payload s) at496,
+    ))
+
+-- A string is a check where each part of it is at its place.
+check-parts : (u pack place : ℕ) (B : List ℕ) → length B ≡ 512 → u ≤ 496
+    → equal (drop u B) (check u pack place)
+    ≡ (equal (take (496 - u) (drop u B)) (bytes (496 - u) 0) && (equal (take 8 (drop 496 B)) (bytes 8 pack)
+    && (equal (take 4 (drop 504 B)) (bytes 4 place) && (equal (take 2 (drop 508 B)) (bytes 2 u) && equal (take 2 (drop 510 B)) (bytes 2 0)))))
+unfolding check
+check-parts u pack place B h l =
+    let filling : List ℕ = replicate (496 - u) 0 in
+    let zero2 : List ℕ = replicate 2 0 in
+    let at496 : u + (496 - u) ≡ 496 = omega arith in
+    let last : length (drop 510 B) ≤ 2 = rw (length-drop, h) (omega arith) in
+    rw (
+      append-assoc (filling ++ bytes 8 pack ++ bytes 4 place) (bytes 2 u) zero2,
+      append-assoc (filling ++ bytes 8 pack) (bytes 4 place) (bytes 2 u ++ zero2),
+      append-assoc filling (bytes 8 pack) (bytes 4 place ++ (bytes 2 u ++ zero2)),
+      equal-append (drop u B) filling (bytes 8 pack ++ (bytes 4 place ++ (bytes 2 u ++ zero2))),
+      length-replicate,
+      drop-drop,
+      at496,
+      equal-append (drop 496 B) (bytes 8 pack) (bytes 4 place ++ (bytes 2 u ++ zero2)),
+      length-bytes 8 pack,
+      drop-drop,
+      equal-append (drop 504 B) (bytes 4 place) (bytes 2 u ++ zero2),
+      length-bytes 4 place,
+      drop-drop,
+      equal-append (drop 508 B) (bytes 2 u) zero2,
+      length-bytes 2 u,
+      drop-drop,
+      take-all 2 (drop 510 B) last,
+      zeros (496 - u),
+      zeros 2,
+    )
+
+-- u is what it was read from.
+own-part : (B : List ℕ) → OfLength 512 B → equal (take 2 (drop 508 B)) (bytes 2 (used B)) ≡ true
+unfolding used
+own-part B h =
+    let two : length (take 2 (drop 508 B)) ≡ 2 = rw (length-take, length-drop, h .0) in
+    let back : bytes 2 (number (take 2 (drop 508 B))) ≡ take 2 (drop 508 B) =
+    rw two at (bytes-number (take 2 (drop 508 B)) (below-take 2 (drop 508 B) (below-drop 508 B (h .1)))) in
+    rw back (equal-refl (take 2 (drop 508 B)))
+
+grouped : (a b c d : Bool) → (a && (b && (c && (true && d)))) ≡ (a && b && c && d)
+grouped true true true d = refl
+grouped true true false d = refl
+grouped true false c d = refl
+grouped false b c d = refl
+
+-- The check is passed where each part of it is what it should be; u is read from its own part.
+pub passes-parts : (pack place : ℕ) (B : List ℕ) → OfLength 512 B → used B ≤ 496 → let u = used B in
+    passes pack place B
+    ≡ (equal (take (496 - u) (drop u B)) (bytes (496 - u) 0) && equal (take 8 (drop 496 B)) (bytes 8 pack)
+    && equal (take 4 (drop 504 B)) (bytes 4 place) && equal (take 2 (drop 510 B)) (bytes 2 0))
+unfolding passes
+passes-parts pack place B h l =
+    rw (le-leb (used B) 496 l, check-parts (used B) pack place B (h .0) l, own-part B h)
+    (grouped (equal (take (496 - used B) (drop (used B) B)) (bytes (496 - used B) 0)) (equal (take 8 (drop 496 B)) (bytes 8 pack))
+    (equal (take 4 (drop 504 B)) (bytes 4 place)) (equal (take 2 (drop 510 B)) (bytes 2 0)))
+
+-- The tweak and the plain block are strings of 16 and of 512 bytes.
+zeros-below : (n : ℕ) → Bytes (replicate n 0)
+zeros-below n = rw (sym (zeros n)) (bytes-below n 0)
+
+pub tweak-length : (pack place : ℕ) → OfLength 16 (tweak pack place)
+unfolding tweak
+tweak-length pack place = (
+  simp (length-append, length-replicate, length-bytes),
+  below-append (bytes 8 pack ++ replicate 4 0) (bytes 4 place)
+      (below-append (bytes 8 pack) (replicate 4 0) (bytes-below 8 pack) (zeros-below 4)) (bytes-below 4 place),
+)
+
+check-below : (u pack place : ℕ) → Bytes (check u pack place)
+unfolding check
+check-below u pack place =
+    let filling : List ℕ = replicate (496 - u) 0 in
+    below-append (filling ++ bytes 8 pack ++ bytes 4 place ++ bytes 2 u) (replicate 2 0)
+    (below-append (filling ++ bytes 8 pack ++ bytes 4 place) (bytes 2 u)
+    (below-append (filling ++ bytes 8 pack) (bytes 4 place)
+    (below-append filling (bytes 8 pack) (zeros-below (496 - u)) (bytes-below 8 pack)) (bytes-below 4 place)) (bytes-below 2 u)) (zeros-below 2)
+
+pub plain-length : (payload : List ℕ) (pack place : ℕ) → Bytes payload → length payload ≤ 496 → OfLength 512 (plainBlock payload pack place)
+unfolding plainBlock
+plain-length payload pack place b h =
+    (length-plain payload pack place h, below-append payload (check (length payload) pack place) b (check-below (length payload) pack place))
+
+-- The plain block of a payload holds its length, and passes its check.
+module _ (payload : List ℕ) (pack place : ℕ) (h : length payload ≤ 496) where
+  pub used-plain : used (plainBlock payload pack place) ≡ length payload
+  unfolding used plainBlock check
+  used-plain =
+      let u = length payload in
+      let front : List ℕ = replicate (496 - u) 0 ++ bytes 8 pack ++ bytes 4 place in
+      let at508 : length (payload ++ front) ≡ 508 = simp (length-append, length-replicate, length-bytes) (omega arith) in
+      rw (
+        append-assoc front (bytes 2 u) (replicate 2 0),
+        sym (append-assoc payload front (bytes 2 u ++ replicate 2 0)),
+        drop-at (payload ++ front) (bytes 2 u ++ replicate 2 0) 508 at508,
+        take-at (bytes 2 u) (replicate 2 0) 2 (length-bytes 2 u),
+        number-bytes 2 u,
+      ) (mod-eq-of-lt (omega arith))
+
+  drop-plain : drop (length payload) (plainBlock payload pack place) ≡ check (length payload) pack place
+  unfolding plainBlock
+  drop-plain = drop-at payload (check (length payload) pack place) (length payload) refl
+
+  pub take-plain : take (length payload) (plainBlock payload pack place) ≡ payload
+  unfolding plainBlock
+  take-plain = take-at payload (check (length payload) pack place) (length payload) refl
+
+  pub passes-plain : passes pack place (plainBlock payload pack place) ≡ true
+  unfolding passes
+  passes-plain =
+      rw (used-plain, le-leb (length payload) 496 h, drop-plain) (equal-refl (check (length payload) pack place))
+
+-- And nothing else does.
+pub passes-only : (pack place : ℕ) (B : List ℕ) → length B ≡ 512 → passes pack place B ≡ true
+    → (used B ≤ 496) × (B ≡ plainBlock (take (used B) B) pack place)
+unfolding passes plainBlock
+passes-only pack place B h e =
+    let parts = both (leb (used B) 496) (equal (drop (used B) B) (check (used B) pack place)) e in
+    let l = leb-true (used B) 496 (parts .0) in
+    let n : length (take (used B) B) ≡ used B = length-take-le (used B) B (omega (arith, h)) in
+    (l, rw (n, sym (equal-true (drop (used B) B) (check (used B) pack place) (parts .1)), take-append-drop))

@@ -1,0 +1,5 @@
+pub mod Parts
+pub mod Check
+pub mod Sealing
+pub mod Examples
+pub mod Theorems

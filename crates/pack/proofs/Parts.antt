@@ -1,0 +1,41 @@
+-- Bytes that are copied and bytes that are compared, from the last on.
+-- Assumes nothing.
+use Prim.Native.Nat.{ℕ, zero, suc, _+_, _/_, _%_, _^_, _<_}
+use mathlib.Core.Path.{_≡_, refl}
+use mathlib.Core.Bool.{Bool, true, false, _&&_}
+use mathlib.Core.List.{List}
+use native.Mathlib.Numerals.{add-one}
+use native.Mathlib.Omega.{arith}
+use borrow.Author.Tests.{eqb-true, eqb-false, ne-eqb}
+use lib.Bits.{bitOr, bitXor, or-zero-l, or-zero-r, or-add-and, and-le-l, and-le-r, xor-self, xor-add-and}
+use lib.Dec.{eqb, eqb·suc-zero}
+use lib.ListN.{length, getD, take, drop, set}
+use lib.Seq.{drop-cons}
+use Rattle.blocks.specs.Bytes.{bytes, equal, overwrite}
+use Rattle.blocks.proofs.Place.{overwrite-cons}
+
+-- Copying from the last byte on: the next byte.
+pub copy-next : (s t : List ℕ) (k : ℕ) → k < length t → set (overwrite (k + 1) (drop (k + 1) t) s) k (getD t k 0) ≡ overwrite k (drop k t) s
+copy-next s t k l = rw (add-one k, drop-cons t k 0 l, overwrite-cons k (getD t k 0) (drop (suc k) t) s)
+
+-- Differences are gathered by `or`: there is none where no byte differs.
+pub none-differ : (c d : ℕ) → eqb (bitOr c d) 0 ≡ (eqb c 0 && eqb d 0)
+none-differ zero zero = refl
+none-differ zero (suc d) = rw (or-zero-l (suc d))
+none-differ (suc c) zero = rw (or-zero-r (suc c), eqb·suc-zero c)
+none-differ (suc c) (suc d) =
+    rw (eqb·suc-zero c)
+    (ne-eqb (bitOr (suc c) (suc d)) 0 (λ e. omega (arith, e, or-add-and (suc c) (suc d), and-le-l (suc c) (suc d), and-le-r (suc c) (suc d))))
+
+differ-by : (a b : ℕ) (t : Bool) → eqb a b ≡ t → eqb (bitXor a b) 0 ≡ t
+differ-by a b true e = rw (eqb-true a b e, xor-self b)
+differ-by a b false e =
+    ne-eqb (bitXor a b) 0 (λ z. eqb-false a b e (omega (arith, z, xor-add-and a b, and-le-l a b, and-le-r a b)))
+
+-- Comparing a number's bytes: the next byte.
+pub differ-next : (s : List ℕ) (k n w d : ℕ) → k < length s → eqb d 0 ≡ equal (take n (drop (k + 1) s)) (bytes n w)
+    → eqb (bitOr (bitXor (getD s k 0) (w / 256 ^ n % 256)) d) 0 ≡ equal (take (n + 1) (drop k s)) (bytes (n + 1) w)
+unfolding bytes equal
+differ-next s k n w d l h =
+    let byte = w / 256 ^ n % 256 in
+    rw (none-differ (bitXor (getD s k 0) byte) d, differ-by (getD s k 0) byte _ refl, h, add-one n, drop-cons s k 0 l, add-one k)

@@ -1,0 +1,60 @@
+-- The parts of the plain block, written one behind the other.
+-- Assumes nothing.
+use borrow.Author.Needs.{needs}
+use denote.Ref.{now}
+use Rattle.pack.proofs.Check.{laid-out}
+use Rattle.pack.proofs.layout.lay_out.Statement.{statement}
+use Rattle.pack.proofs.layout.lay_out.Tie as tie
+use Rattle.pack.proofs.layout.copy.Reads as copy-reads
+use Rattle.pack.proofs.layout.put.Reads as put-reads
+
+copy-requires : tie.Need-copy-requires
+copy-requires c κs = search needs
+
+sub-put : tie.Need-sub-put
+sub-put c = search needs
+
+put-requires : tie.Need-put-requires
+put-requires c κs = search needs
+
+put-requires-2 : tie.Need-put-requires-2
+put-requires-2 c κs = search needs
+
+put-requires-3 : tie.Need-put-requires-3
+put-requires-3 c κs = search needs
+
+put-requires-4 : tie.Need-put-requires-4
+put-requires-4 c κs = search needs
+
+put-requires-5 : tie.Need-put-requires-5
+put-requires-5 c κs = search needs
+
+same-length : tie.Need-same-length
+same-length c = search needs
+
+returns : tie.Need-returns
+returns c =
+    let p5 = c .before .before in
+    let p4 = p5 .before .before .before .before in
+    let p3 = p4 .before .before .before .before in
+    let p2 = p3 .before .before .before .before in
+    let p1 = p2 .before .before .before .before in
+    let front = p1 .before .before .before .before in
+    let start = front .before .before .before .before in
+    let a = start .args in
+    rw (p5 .put5 .ensures, p4 .put4 .ensures, p3 .put3 .ensures, p2 .put2 .ensures, p1 .put .ensures, front .copy .ensures)
+    (laid-out (now (a .payload)) (now (a .block)) (a .pack) (a .place) (start .pre .0) (start .pre .1))
+
+pub lay-out-spec : {M : Type 1} → statement M
+lay-out-spec =
+    tie.close
+    (tie.spec
+    copy-requires
+    sub-put
+    put-requires
+    put-requires-2
+    put-requires-3
+    put-requires-4
+    put-requires-5
+    same-length
+    returns)

@@ -1,0 +1,77 @@
+-- After each turn the last n - i bytes stand, and `rest` is what lies above them.
+-- Assumes nothing.
+use Prim.Native.Nat.{_+_, _-_, _/_, _^_, _≤_}
+use mathlib.Core.Path.{_≡_}
+use native.Mathlib.Nat.{sub-zero, add-zero}
+use native.Mathlib.Omega.{arith}
+use denote.Ref.{now}
+use Rattle.blocks.specs.Bytes.{bytes, overwrite}
+use Rattle.blocks.proofs.Place.{overwrite-nil, overwrite-next, length-overwrite, rest-next}
+use Rattle.pack.proofs.layout.put.Statement.{statement}
+use Rattle.pack.proofs.layout.put.Tie as tie
+
+abbrev Inv-loop : tie.InvT-loop
+Inv-loop out₀ at n value rest₀ i₀ out rest i =
+    (i ≤ n) × (rest ≡ value / 256 ^ (n - i)) × (out ≡ overwrite (at + i) (bytes (n - i) value) out₀)
+
+abbrev μ-loop : tie.MeasureT-loop
+μ-loop out₀ at n value rest₀ i₀ out rest i = i
+
+loop-holds : tie.Need-loop-holds Inv-loop μ-loop
+unfolding bytes
+loop-holds c =
+    let a = c .args in
+    let none : a .n - a .n ≡ 0 = omega arith in
+    (omega arith, rw none (omega arith), rw (none, overwrite-nil (a .at + a .n) (now (a .out))))
+
+sub-i : tie.Need-sub-i Inv-loop μ-loop
+sub-i c = omega arith
+
+cast-out : tie.Need-cast-out Inv-loop μ-loop
+cast-out c = omega arith
+
+add-out : tie.Need-add-out Inv-loop μ-loop
+add-out c = omega (arith, c .before .before .pre)
+
+slice-write-out : tie.Need-slice-write-out Inv-loop μ-loop
+slice-write-out c = rw (c .before .loop .inv .2, length-overwrite) (omega (arith, c .before .before .pre))
+
+loop-less : tie.Need-loop-less Inv-loop μ-loop
+loop-less c = omega arith
+
+loop-again : tie.Need-loop-again Inv-loop μ-loop
+loop-again c =
+    let l = c .before .loop in
+    let a = c .before .before .args in
+    let here = a .at + (l .i - 1) in
+    let back : here + 1 ≡ a .at + l .i = omega arith in
+    let more : a .n - (l .i - 1) ≡ a .n - l .i + 1 = omega arith in (
+      omega arith,
+      rw (more, l .inv .1, rest-next),
+      rw (more, l .inv .1, l .inv .2) (rw back at (overwrite-next here (a .n - l .i) (a .value) (now (a .out)))),
+    )
+
+same-length : tie.Need-same-length Inv-loop μ-loop
+same-length c = rw (c .before .loop .inv .2, length-overwrite)
+
+returns : tie.Need-returns Inv-loop μ-loop
+returns c =
+    let l = c .before .loop in
+    let end : l .i ≡ 0 = omega arith in
+    rw (end, sub-zero, add-zero) at (l .inv .2)
+
+pub put-spec : {M : Type 1} → statement M
+put-spec =
+    tie.close
+    (tie.spec
+    Inv-loop
+    μ-loop
+    loop-holds
+    sub-i
+    cast-out
+    add-out
+    slice-write-out
+    loop-less
+    loop-again
+    same-length
+    returns)

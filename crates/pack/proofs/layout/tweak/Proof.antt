@@ -1,0 +1,29 @@
+-- Both numbers are written into zeros.
+-- Assumes nothing.
+use borrow.Author.Needs.{needs}
+use Rattle.blocks.specs.Bytes.{bytes, overwrite}
+use Rattle.pack.specs.Layout.{tweak as tweakOf}
+use Rattle.pack.proofs.layout.tweak.Statement.{statement}
+use Rattle.pack.proofs.layout.tweak.Tie as tie
+use Rattle.pack.proofs.layout.put.Reads as put-reads
+
+slice-aggregate-put : tie.Need-slice-aggregate-put
+slice-aggregate-put c = search needs
+
+put-requires : tie.Need-put-requires
+put-requires c κs = search needs
+
+slice-aggregate-put-2 : tie.Need-slice-aggregate-put-2
+slice-aggregate-put-2 c = search needs
+
+put-requires-2 : tie.Need-put-requires-2
+put-requires-2 c κs = search needs
+
+returns : tie.Need-returns
+unfolding tweakOf bytes overwrite
+returns c = rw (c .before .put2 .ensures, c .before .before .before .before .put .ensures)
+
+pub tweak-spec : {M : Type 1} → statement M
+tweak-spec =
+    tie.close
+    (tie.spec slice-aggregate-put put-requires slice-aggregate-put-2 put-requires-2 returns)

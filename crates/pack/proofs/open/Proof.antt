@@ -1,0 +1,153 @@
+-- Each refusal is that of its test, and the check decides the rest; what fails it is enciphered again.
+-- Assumes nothing.
+use Prim.Native.Nat.{_≤_}
+use mathlib.Core.Path.{_≡_, refl, sym, _∙_}
+use mathlib.Core.Bool.{true, false}
+use native.Mathlib.Omega.{arith}
+use borrow.Author.Needs.{needs}
+use borrow.Author.Tests.{lt-ltb, le-ltb, eq-eqb, ne-eqb}
+use denote.Ref.{now}
+use lib.ListN.{length}
+use Rattle.blocks.specs.Bytes.{OfLength}
+use Rattle.hch.specs.Hch.{enciphered, deciphered}
+use Rattle.hch.proofs.Call.{worked}
+use Rattle.pack.specs.Layout.{tweak as tweakOf, passes as passesCheck}
+use Rattle.pack.specs.Open.{opened, openAnswer}
+use Rattle.pack.proofs.Check.{tweak-length}
+use Rattle.pack.proofs.Sealing.{by-check}
+use Rattle.pack.proofs.Theorems.{opened-length, given-back, told}
+use Rattle.pack.specs.declared.Opened.the-variants.{Done, KeyLength, BlockLength, PlaceTooHigh, CheckFailed}
+use Rattle.pack.proofs.open.Statement.{statement}
+use Rattle.pack.proofs.open.Tie as tie
+use Rattle.hch.proofs.decipher.Reads as decipher-reads
+use Rattle.hch.proofs.encipher.Reads as encipher-reads
+use Rattle.pack.proofs.layout.passes.Reads as passes-reads
+use Rattle.pack.proofs.layout.tweak.Reads as tweak-reads
+use Rattle.pack.proofs.layout.used.Reads as used-reads
+
+returns : tie.Need-returns
+unfolding openAnswer
+returns c =
+    let a = c .before .before .before .args in
+    let answered : KeyLength ≡ openAnswer (deciphered (now (a .key))) (now (a .key)) (a .pack) (a .place) (now (a .block)) =
+    rw (ne-eqb _ 16 (c .if1 .taken)) in
+    (answered, (refl, told (now (a .key)) (now (a .block)) (now (a .block)) (a .pack) (a .place) KeyLength (λ i. c .before .slice-known .given i .fits) answered refl))
+
+returns-2 : tie.Need-returns-2
+unfolding openAnswer
+returns-2 c =
+    let a = c .before .before .before .before .args in
+    let answered : BlockLength ≡ openAnswer (deciphered (now (a .key))) (now (a .key)) (a .pack) (a .place) (now (a .block)) =
+    rw (eq-eqb _ 16 (c .before .if1 .left), ne-eqb _ 512 (c .if2 .taken)) in
+    (answered, (refl, told (now (a .key)) (now (a .block)) (now (a .block)) (a .pack) (a .place) BlockLength (λ i. c .before .before .slice-known .given i .fits) answered refl))
+
+returns-3 : tie.Need-returns-3
+unfolding openAnswer
+returns-3 c =
+    let a = c .before .before .before .before .before .args in
+    let answered : PlaceTooHigh ≡ openAnswer (deciphered (now (a .key))) (now (a .key)) (a .pack) (a .place) (now (a .block)) =
+    rw (eq-eqb _ 16 (c .before .before .if1 .left), eq-eqb _ 512 (c .before .if2 .left), lt-ltb 65535 _ (c .if3 .taken)) in
+    (answered, (refl, told (now (a .key)) (now (a .block)) (now (a .block)) (a .pack) (a .place) PlaceTooHigh (λ i. c .before .before .before .slice-known .given i .fits) answered refl))
+
+tweak-requires : tie.Need-tweak-requires
+tweak-requires c κs = search needs
+
+slice-aggregate-decipher : tie.Need-slice-aggregate-decipher
+slice-aggregate-decipher c = search needs
+
+decipher-requires : tie.Need-decipher-requires
+decipher-requires c κs = search needs
+
+passes-requires : tie.Need-passes-requires
+passes-requires c κs = search needs
+
+used-requires : tie.Need-used-requires
+used-requires c κs = search needs
+
+same-length : tie.Need-same-length
+same-length c = search needs
+
+returns-4 : tie.Need-returns-4
+unfolding opened
+returns-4 c =
+    let p = c .before .before .before in
+    let d = p .before .before .before .before in
+    let t = d .before .before .before in
+    let d3 = t .before in
+    let d2 = d3 .before in
+    let d1 = d2 .before in
+    let known = d1 .before in
+    let a = known .before .before .args in
+    let key = now (a .key) in
+    let tweak = tweakOf (a .pack) (a .place) in
+    let C = now (a .block) in
+    let B = opened (deciphered key) (a .pack) (a .place) C in
+    let plain : d .decipher .last .1 .1 .0 ≡ B =
+    worked key tweak C B (d .decipher .last .1 .1 .0) (d .decipher .result) (rw (t .tweak .ensures) at (d .decipher .ensures .0))
+    (rw (t .tweak .ensures) at (d .decipher .ensures .1 .0)) (d1 .if1 .left) (tweak-length (a .pack) (a .place) .0)
+    (omega (arith, d2 .if2 .left)) (omega (arith, d2 .if2 .left)) in
+    let passed : passesCheck (a .pack) (a .place) B ≡ true = rw plain at (sym (p .passes .ensures) ∙ c .before .before .if4 .taken) in
+    let answered : Done (c .used .result) ≡ openAnswer (deciphered key) key (a .pack) (a .place) C =
+    rw (c .used .ensures, plain)
+    (sym (by-check (deciphered key) key (a .pack) (a .place) C (d1 .if1 .left) (d2 .if2 .left) (d3 .if3 .left) true passed)) in
+    (answered, (plain, told key C (d .decipher .last .1 .1 .0) (a .pack) (a .place) (Done (c .used .result)) (λ i. known .slice-known .given i .fits) answered plain))
+
+slice-aggregate-encipher : tie.Need-slice-aggregate-encipher
+slice-aggregate-encipher c = search needs
+
+encipher-requires : tie.Need-encipher-requires
+encipher-requires c κs = search needs
+
+same-length-2 : tie.Need-same-length-2
+same-length-2 c = search needs
+
+returns-5 : tie.Need-returns-5
+unfolding opened
+returns-5 c =
+    let e = c .before .before in
+    let p = e .before .before .before .before in
+    let d = p .before .before .before .before in
+    let t = d .before .before .before in
+    let d3 = t .before in
+    let d2 = d3 .before in
+    let d1 = d2 .before in
+    let known = d1 .before in
+    let a = known .before .before .args in
+    let key = now (a .key) in
+    let tweak = tweakOf (a .pack) (a .place) in
+    let C = now (a .block) in
+    let B = opened (deciphered key) (a .pack) (a .place) C in
+    let plain : d .decipher .last .1 .1 .0 ≡ B =
+    worked key tweak C B (d .decipher .last .1 .1 .0) (d .decipher .result) (rw (t .tweak .ensures) at (d .decipher .ensures .0))
+    (rw (t .tweak .ensures) at (d .decipher .ensures .1 .0)) (d1 .if1 .left) (tweak-length (a .pack) (a .place) .0)
+    (omega (arith, d2 .if2 .left)) (omega (arith, d2 .if2 .left)) in
+    let lent : OfLength 512 C = (d2 .if2 .left, λ i. known .slice-known .given i .fits) in
+    let size = opened-length key (a .pack) (a .place) C lent in
+    let failed : passesCheck (a .pack) (a .place) B ≡ false = rw plain at (sym (p .passes .ensures) ∙ e .before .before .before .if4 .left) in
+    let answered : CheckFailed ≡ openAnswer (deciphered key) key (a .pack) (a .place) C =
+    sym (by-check (deciphered key) key (a .pack) (a .place) C (d1 .if1 .left) (d2 .if2 .left) (d3 .if3 .left) false failed) in
+    let left : e .encipher .last .1 .1 .0 ≡ C =
+    worked key tweak B (enciphered key tweak B) (e .encipher .last .1 .1 .0) (e .encipher .result)
+    (rw (t .tweak .ensures, plain) at (e .encipher .ensures .0)) (rw (t .tweak .ensures, plain) at (e .encipher .ensures .1))
+    (d1 .if1 .left) (tweak-length (a .pack) (a .place) .0) (omega (arith, size)) (omega (arith, size))
+    ∙ given-back key (a .pack) (a .place) C lent in
+    (answered, (left, told key C (e .encipher .last .1 .1 .0) (a .pack) (a .place) CheckFailed (lent .1) answered left))
+
+pub open-spec : {M : Type 1} → statement M
+open-spec =
+    tie.close
+    (tie.spec
+    returns
+    returns-2
+    returns-3
+    tweak-requires
+    slice-aggregate-decipher
+    decipher-requires
+    passes-requires
+    used-requires
+    same-length
+    returns-4
+    slice-aggregate-encipher
+    encipher-requires
+    same-length-2
+    returns-5)

@@ -1,0 +1,4 @@
+pub mod Layout
+pub mod Seal
+pub mod Open
+pub mod Theorems

@@ -1,0 +1,77 @@
+-- Opening: what it answers, what it leaves in the lent block, and what that means.
+use Prim.Native.Nat.{ℕ, _≤_}
+use mathlib.Core.Path.{_≡_}
+use mathlib.Core.Bool.{Bool, true, false, cond, not, _&&_}
+use mathlib.Core.List.{List}
+use lib.Dec.{ltb, eqb}
+use lib.ListN.{length, take}
+use Rattle.blocks.specs.Bytes.{Bytes, equal}
+use Rattle.blocks.specs.One.{OneString}
+use Rattle.pack.specs.Layout.{tweak, used, passes}
+use Rattle.pack.specs.Seal.{seal}
+use Rattle.pack.specs.declared.Opened.{Opened}
+use Rattle.pack.specs.declared.Opened.the-variants.{Done, KeyLength, BlockLength, PlaceTooHigh, CheckFailed}
+
+-- 01, "Numbers for a call that was not done"; a call that was done has 0, and answers u.
+abbrev pub numberOfOpened : Opened → ℕ
+numberOfOpened (Done u) = 0
+numberOfOpened KeyLength = 1
+numberOfOpened BlockLength = 7
+numberOfOpened PlaceTooHigh = 6
+numberOfOpened CheckFailed = 8
+
+-- What a call leaves in the lent block: the plain block where it was opened, and what it held where it was not.
+abbrev pub leftByOpening : Opened → (plain block : List ℕ) → List ℕ
+leftByOpening (Done u) plain block = plain
+leftByOpening KeyLength plain block = block
+leftByOpening BlockLength plain block = block
+leftByOpening PlaceTooHigh plain block = block
+leftByOpening CheckFailed plain block = block
+
+-- Whether an answer is no refusal, and u.
+abbrev pub answers : ℕ → Opened → Bool
+answers u (Done v) = eqb v u
+answers u KeyLength = false
+answers u BlockLength = false
+answers u PlaceTooHigh = false
+answers u CheckFailed = false
+
+-- D is deciphering under the key, by the tweak.
+module _ (D : List ℕ → List ℕ → List ℕ) where
+  -- What deciphering gives: the plain block, where it passes its check.
+  unfoldable pub opened : (pack place : ℕ) (C : List ℕ) → List ℕ
+  opened pack place C = D (tweak pack place) C
+
+  -- 01, "Opening looks at 1, 7, 6, 8".
+  unfoldable pub openAnswer : (key : List ℕ) (pack place : ℕ) (C : List ℕ) → Opened
+  openAnswer key pack place C =
+      let B = opened pack place C in
+      cond (not (eqb (length key) 16)) KeyLength
+      (cond (not (eqb (length C) 512)) BlockLength
+      (cond (ltb 65535 place) PlaceTooHigh
+      (cond (not (passes pack place B)) CheckFailed (Done (used B)))))
+
+  -- 01, "A block opens to a payload, pack and place, under a key, when opening it with that key, pack and place is not refused, returns the
+  -- payload's length as u and leaves the payload from byte 0 on".
+  unfoldable pub opensTo : (key payload : List ℕ) (pack place : ℕ) (C : List ℕ) → Bool
+  opensTo key payload pack place C =
+      let answer = openAnswer key pack place C in
+      let left = leftByOpening answer (opened pack place C) C in
+      answers (length payload) answer && equal (take (length payload) left) payload
+
+  -- Demand 3: exactly one 512-byte block opens to the payload, pack and place, and it is C; counted over all of them, there is 1.
+  abbrev pub OneBlock : (key payload : List ℕ) (pack place : ℕ) (C : List ℕ) → Type 0
+  OneBlock key payload pack place C = OneString 512 (opensTo key payload pack place) C
+
+-- 01, "no payload of 0 to 496 bytes seals to these 512 bytes".
+abbrev pub NoPayload : (E : List ℕ → List ℕ → List ℕ) (pack place : ℕ) (C : List ℕ) → Type 0
+NoPayload E pack place C = (payload : List ℕ) → Bytes payload → length payload ≤ 496 → seal E payload pack place ≡ C → ⊥
+
+-- What the answer to an opening of C means, which leaves B.
+pub record Meaning (E D : List ℕ → List ℕ → List ℕ) (answer : Opened) (key : List ℕ) (pack place : ℕ) (C B : List ℕ) : Type 0 where
+  -- The payload that is left is the one that seals to C, and no other block opens to it.
+  pub sealed : (u : ℕ) → answer ≡ Done u → seal E (take u B) pack place ≡ C
+  pub one-block : (u : ℕ) → answer ≡ Done u → OneBlock D key (take u B) pack place C
+  -- 01, "Where 1, 7 and 6 do not apply, number 8 is returned exactly if no payload of 0 to 496 bytes seals to these 512 bytes".
+  pub failed : answer ≡ CheckFailed → NoPayload E pack place C
+  pub only-failed : length key ≡ 16 → length C ≡ 512 → place ≤ 65535 → NoPayload E pack place C → answer ≡ CheckFailed
