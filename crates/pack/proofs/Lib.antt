@@ -1,5 +1,5 @@
 pub mod Parts
 pub mod Check
-pub mod Sealing
-pub mod Examples
+pub mod OneBlock
 pub mod Theorems
+pub mod Examples

@@ -10,11 +10,11 @@ use Rattle.blocks.specs.Permutation.{TweakableCipher}
 use Rattle.hch.specs.Hch.{enciphered, deciphered}
 use Rattle.hch.proofs.Theorems as hch
 use Rattle.pack.specs.Layout.{tweak}
-use Rattle.pack.specs.Open.{leftByOpening, opened, openAnswer, Meaning}
-use Rattle.pack.specs.declared.Opened.{Opened}
+use Rattle.pack.specs.Opening.{leftBy, opened, answerOf, Meaning}
+use Rattle.pack.specs.declared.opening.Opened.{Opened}
 use Rattle.pack.specs.Theorems.{Pack, Theorems}
 use Rattle.pack.proofs.Check.{tweak-length, take-plain}
-use Rattle.pack.proofs.Sealing.{opened-sealed, answer-sealed, only-sealed, one-block, meaning}
+use Rattle.pack.proofs.OneBlock.{opened-sealed, answer-sealed, only-sealed, one-block, meaning}
 
 pub hch-tweakable : (key : List ℕ) → TweakableCipher 512 (enciphered key) (deciphered key)
 hch-tweakable key T h = hch.theorems .hch-cipher key T 512 h (omega arith)
@@ -30,8 +30,8 @@ module _ (key : List ℕ) (pack place : ℕ) (C : List ℕ) (h : OfLength 512 C)
   given-back = hch-tweakable key (tweak pack place) (tweak-length pack place) .undoes C h
 
 -- The two equations of opening tell what they mean.
-pub told : (key C B : List ℕ) (pack place : ℕ) (answer : Opened) → Bytes C → answer ≡ openAnswer (deciphered key) key pack place C
-    → B ≡ leftByOpening answer (opened (deciphered key) pack place C) C
+pub told : (key C B : List ℕ) (pack place : ℕ) (answer : Opened) → Bytes C → answer ≡ answerOf (deciphered key) key pack place C
+    → B ≡ leftBy answer (opened (deciphered key) pack place C) C
     → Meaning (enciphered key) (deciphered key) answer key pack place C B
 told key C B pack place answer b e l = rw (l, e) (meaning (enciphered key) (deciphered key) (hch-tweakable key) pack place key C b)
 

@@ -1,4 +1,4 @@
 pub mod Layout
-pub mod Seal
-pub mod Open
+pub mod Sealing
+pub mod Opening
 pub mod Theorems

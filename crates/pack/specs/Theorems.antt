@@ -8,9 +8,9 @@ use Rattle.blocks.specs.Bytes.{Bytes, OfLength}
 use Rattle.blocks.specs.Permutation.{TweakableCipher}
 use Rattle.hch.specs.Hch.{enciphered, deciphered}
 use Rattle.pack.specs.Layout.{plainBlock}
-use Rattle.pack.specs.Seal.{seal}
-use Rattle.pack.specs.Open.{opened, openAnswer, opensTo, OneBlock, NoPayload}
-use Rattle.pack.specs.declared.Opened.the-variants.{Done, CheckFailed}
+use Rattle.pack.specs.Sealing.{seal}
+use Rattle.pack.specs.Opening.{opened, answerOf, opensTo, OneBlock, NoPayload}
+use Rattle.pack.specs.declared.opening.Opened.the-variants.{Done, CheckFailed}
 
 -- For every tweakable cipher of 512 bytes, E under the key and D its inverse. The pack number and the place are any numbers, cut to 64 and
 -- 32 bits where they stand in a block.
@@ -18,7 +18,7 @@ pub record Pack (E D : List ℕ → List ℕ → List ℕ) : Type 0 where
   -- Opening what was sealed answers the payload's length and leaves its plain block, which begins with the payload.
   pub open-sealed : (key payload : List ℕ) (pack place : ℕ) → length key ≡ 16 → Bytes payload → length payload ≤ 496 → place ≤ 65535
       → let C = seal E payload pack place in
-      (openAnswer D key pack place C ≡ Done (length payload)) × (opened D pack place C ≡ plainBlock payload pack place)
+      (answerOf D key pack place C ≡ Done (length payload)) × (opened D pack place C ≡ plainBlock payload pack place)
       × (take (length payload) (plainBlock payload pack place) ≡ payload)
   -- A block that opens to a payload, pack and place is the one that sealing writes.
   pub only-sealed : (key payload : List ℕ) (pack place : ℕ) (C : List ℕ) → OfLength 512 C → opensTo D key payload pack place C ≡ true
@@ -28,8 +28,8 @@ pub record Pack (E D : List ℕ → List ℕ → List ℕ) : Type 0 where
       → OneBlock D key payload pack place (seal E payload pack place)
   -- The check fails exactly if no payload of 0 to 496 bytes seals to the block.
   pub check-failed : (key : List ℕ) (pack place : ℕ) (C : List ℕ) → length key ≡ 16 → OfLength 512 C → place ≤ 65535
-      → (openAnswer D key pack place C ≡ CheckFailed → NoPayload E pack place C)
-      × (NoPayload E pack place C → openAnswer D key pack place C ≡ CheckFailed)
+      → (answerOf D key pack place C ≡ CheckFailed → NoPayload E pack place C)
+      × (NoPayload E pack place C → answerOf D key pack place C ≡ CheckFailed)
 
 pub record Theorems : Type 0 where
   pub any-cipher : (E D : List ℕ → List ℕ → List ℕ) → TweakableCipher 512 E D → Pack E D

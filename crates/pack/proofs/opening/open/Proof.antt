@@ -12,13 +12,13 @@ use Rattle.blocks.specs.Bytes.{OfLength}
 use Rattle.hch.specs.Hch.{enciphered, deciphered}
 use Rattle.hch.proofs.Call.{worked}
 use Rattle.pack.specs.Layout.{tweak as tweakOf, passes as passesCheck}
-use Rattle.pack.specs.Open.{opened, openAnswer}
+use Rattle.pack.specs.Opening.{opened, answerOf}
 use Rattle.pack.proofs.Check.{tweak-length}
-use Rattle.pack.proofs.Sealing.{by-check}
+use Rattle.pack.proofs.OneBlock.{by-check}
 use Rattle.pack.proofs.Theorems.{opened-length, given-back, told}
-use Rattle.pack.specs.declared.Opened.the-variants.{Done, KeyLength, BlockLength, PlaceTooHigh, CheckFailed}
-use Rattle.pack.proofs.open.Statement.{statement}
-use Rattle.pack.proofs.open.Tie as tie
+use Rattle.pack.specs.declared.opening.Opened.the-variants.{Done, KeyLength, BlockLength, PlaceTooHigh, CheckFailed}
+use Rattle.pack.proofs.opening.open.Statement.{statement}
+use Rattle.pack.proofs.opening.open.Tie as tie
 use Rattle.hch.proofs.decipher.Reads as decipher-reads
 use Rattle.hch.proofs.encipher.Reads as encipher-reads
 use Rattle.pack.proofs.layout.passes.Reads as passes-reads
@@ -26,26 +26,26 @@ use Rattle.pack.proofs.layout.tweak.Reads as tweak-reads
 use Rattle.pack.proofs.layout.used.Reads as used-reads
 
 returns : tie.Need-returns
-unfolding openAnswer
+unfolding answerOf
 returns c =
     let a = c .before .before .before .args in
-    let answered : KeyLength ≡ openAnswer (deciphered (now (a .key))) (now (a .key)) (a .pack) (a .place) (now (a .block)) =
+    let answered : KeyLength ≡ answerOf (deciphered (now (a .key))) (now (a .key)) (a .pack) (a .place) (now (a .block)) =
     rw (ne-eqb _ 16 (c .if1 .taken)) in
     (answered, (refl, told (now (a .key)) (now (a .block)) (now (a .block)) (a .pack) (a .place) KeyLength (λ i. c .before .slice-known .given i .fits) answered refl))
 
 returns-2 : tie.Need-returns-2
-unfolding openAnswer
+unfolding answerOf
 returns-2 c =
     let a = c .before .before .before .before .args in
-    let answered : BlockLength ≡ openAnswer (deciphered (now (a .key))) (now (a .key)) (a .pack) (a .place) (now (a .block)) =
+    let answered : BlockLength ≡ answerOf (deciphered (now (a .key))) (now (a .key)) (a .pack) (a .place) (now (a .block)) =
     rw (eq-eqb _ 16 (c .before .if1 .left), ne-eqb _ 512 (c .if2 .taken)) in
     (answered, (refl, told (now (a .key)) (now (a .block)) (now (a .block)) (a .pack) (a .place) BlockLength (λ i. c .before .before .slice-known .given i .fits) answered refl))
 
 returns-3 : tie.Need-returns-3
-unfolding openAnswer
+unfolding answerOf
 returns-3 c =
     let a = c .before .before .before .before .before .args in
-    let answered : PlaceTooHigh ≡ openAnswer (deciphered (now (a .key))) (now (a .key)) (a .pack) (a .place) (now (a .block)) =
+    let answered : PlaceTooHigh ≡ answerOf (deciphered (now (a .key))) (now (a .key)) (a .pack) (a .place) (now (a .block)) =
     rw (eq-eqb _ 16 (c .before .before .if1 .left), eq-eqb _ 512 (c .before .if2 .left), lt-ltb 65535 _ (c .if3 .taken)) in
     (answered, (refl, told (now (a .key)) (now (a .block)) (now (a .block)) (a .pack) (a .place) PlaceTooHigh (λ i. c .before .before .before .slice-known .given i .fits) answered refl))
 
@@ -87,7 +87,7 @@ returns-4 c =
     (rw (t .tweak .ensures) at (d .decipher .ensures .1 .0)) (d1 .if1 .left) (tweak-length (a .pack) (a .place) .0)
     (omega (arith, d2 .if2 .left)) (omega (arith, d2 .if2 .left)) in
     let passed : passesCheck (a .pack) (a .place) B ≡ true = rw plain at (sym (p .passes .ensures) ∙ c .before .before .if4 .taken) in
-    let answered : Done (c .used .result) ≡ openAnswer (deciphered key) key (a .pack) (a .place) C =
+    let answered : Done (c .used .result) ≡ answerOf (deciphered key) key (a .pack) (a .place) C =
     rw (c .used .ensures, plain)
     (sym (by-check (deciphered key) key (a .pack) (a .place) C (d1 .if1 .left) (d2 .if2 .left) (d3 .if3 .left) true passed)) in
     (answered, (plain, told key C (d .decipher .last .1 .1 .0) (a .pack) (a .place) (Done (c .used .result)) (λ i. known .slice-known .given i .fits) answered plain))
@@ -124,7 +124,7 @@ returns-5 c =
     let lent : OfLength 512 C = (d2 .if2 .left, λ i. known .slice-known .given i .fits) in
     let size = opened-length key (a .pack) (a .place) C lent in
     let failed : passesCheck (a .pack) (a .place) B ≡ false = rw plain at (sym (p .passes .ensures) ∙ e .before .before .before .if4 .left) in
-    let answered : CheckFailed ≡ openAnswer (deciphered key) key (a .pack) (a .place) C =
+    let answered : CheckFailed ≡ answerOf (deciphered key) key (a .pack) (a .place) C =
     sym (by-check (deciphered key) key (a .pack) (a .place) C (d1 .if1 .left) (d2 .if2 .left) (d3 .if3 .left) false failed) in
     let left : e .encipher .last .1 .1 .0 ≡ C =
     worked key tweak B (enciphered key tweak B) (e .encipher .last .1 .1 .0) (e .encipher .result)

@@ -15,10 +15,10 @@ use Rattle.blocks.specs.Permutation.{Cipher, TweakableCipher}
 use Rattle.blocks.proofs.Bytes.{below-take}
 use Rattle.blocks.proofs.One.{both, equal-refl, equal-true, one-string}
 use Rattle.pack.specs.Layout.{plainBlock, tweak, used, passes}
-use Rattle.pack.specs.Seal.{seal}
-use Rattle.pack.specs.Open.{numberOfOpened, leftByOpening, answers, opened, openAnswer, opensTo, OneBlock, NoPayload, Meaning}
-use Rattle.pack.specs.declared.Opened.{Opened}
-use Rattle.pack.specs.declared.Opened.the-variants.{Done, KeyLength, BlockLength, PlaceTooHigh, CheckFailed}
+use Rattle.pack.specs.Sealing.{seal}
+use Rattle.pack.specs.Opening.{numberOf, leftBy, answers, opened, answerOf, opensTo, OneBlock, NoPayload, Meaning}
+use Rattle.pack.specs.declared.opening.Opened.{Opened}
+use Rattle.pack.specs.declared.opening.Opened.the-variants.{Done, KeyLength, BlockLength, PlaceTooHigh, CheckFailed}
 use Rattle.pack.proofs.Check.{tweak-length, plain-length, used-plain, take-plain, passes-plain, passes-only}
 
 -- ---- what an answer tells of the tests
@@ -28,18 +28,18 @@ byTests a b c d u = cond (not a) KeyLength (cond (not b) BlockLength (cond c Pla
 
 -- The cases differ in their numbers, and two that are done in u.
 by-done : (a b c d : Bool) (u v : ℕ) → byTests a b c d u ≡ Done v → (a ≡ true) × (b ≡ true) × (c ≡ false) × (d ≡ true) × (u ≡ v)
-by-done false b c d u v e = absurd (omega (arith, ap numberOfOpened e))
-by-done true false c d u v e = absurd (omega (arith, ap numberOfOpened e))
-by-done true true true d u v e = absurd (omega (arith, ap numberOfOpened e))
-by-done true true false false u v e = absurd (omega (arith, ap numberOfOpened e))
+by-done false b c d u v e = absurd (omega (arith, ap numberOf e))
+by-done true false c d u v e = absurd (omega (arith, ap numberOf e))
+by-done true true true d u v e = absurd (omega (arith, ap numberOf e))
+by-done true true false false u v e = absurd (omega (arith, ap numberOf e))
 by-done true true false true u v e = (refl, refl, refl, refl, eqb-true u v (ap (answers v) e ∙ eq-eqb v v refl))
 
 by-failed : (a b c d : Bool) (u : ℕ) → byTests a b c d u ≡ CheckFailed → d ≡ false
-by-failed false b c d u e = absurd (omega (arith, ap numberOfOpened e))
-by-failed true false c d u e = absurd (omega (arith, ap numberOfOpened e))
-by-failed true true true d u e = absurd (omega (arith, ap numberOfOpened e))
+by-failed false b c d u e = absurd (omega (arith, ap numberOf e))
+by-failed true false c d u e = absurd (omega (arith, ap numberOf e))
+by-failed true true true d u e = absurd (omega (arith, ap numberOf e))
 by-failed true true false false u e = refl
-by-failed true true false true u e = absurd (omega (arith, ap numberOfOpened e))
+by-failed true true false true u e = absurd (omega (arith, ap numberOf e))
 
 module _ (D : List ℕ → List ℕ → List ℕ) (key : List ℕ) (pack place : ℕ) (C : List ℕ) where
   -- What is known of a call that was done.
@@ -50,8 +50,8 @@ module _ (D : List ℕ → List ℕ → List ℕ) (key : List ℕ) (pack place :
     passed : passes pack place (opened D pack place C) ≡ true
     value : used (opened D pack place C) ≡ u
 
-  opening : (u : ℕ) → openAnswer D key pack place C ≡ Done u → Opening u
-  unfolding openAnswer
+  opening : (u : ℕ) → answerOf D key pack place C ≡ Done u → Opening u
+  unfolding answerOf
   opening u e =
       let B = opened D pack place C in
       let t = by-done (eqb (length key) 16) (eqb (length C) 512) (ltb 65535 place) (passes pack place B) (used B) u e in
@@ -63,16 +63,16 @@ module _ (D : List ℕ → List ℕ → List ℕ) (key : List ℕ) (pack place :
         value = t .4;
       }
 
-  failing : openAnswer D key pack place C ≡ CheckFailed → passes pack place (opened D pack place C) ≡ false
-  unfolding openAnswer
+  failing : answerOf D key pack place C ≡ CheckFailed → passes pack place (opened D pack place C) ≡ false
+  unfolding answerOf
   failing e =
       let B = opened D pack place C in
       by-failed (eqb (length key) 16) (eqb (length C) 512) (ltb 65535 place) (passes pack place B) (used B) e
 
   -- The check alone decides where the other tests are passed.
   pub by-check : length key ≡ 16 → length C ≡ 512 → place ≤ 65535 → (t : Bool) → passes pack place (opened D pack place C) ≡ t
-      → openAnswer D key pack place C ≡ cond (not t) CheckFailed (Done (used (opened D pack place C)))
-  unfolding openAnswer
+      → answerOf D key pack place C ≡ cond (not t) CheckFailed (Done (used (opened D pack place C)))
+  unfolding answerOf
   by-check k l h t e = rw (eq-eqb _ 16 k, eq-eqb _ 512 l, le-ltb 65535 _ h, e)
 
 -- What a block opens to: an answer that is no refusal.
@@ -101,7 +101,7 @@ module _ (E D : List ℕ → List ℕ → List ℕ) (cipher : TweakableCipher 51
       opened-sealed = at-tweak .undone (plainBlock payload pack place) (plain-length payload pack place b h)
 
       pub answer-sealed : (key : List ℕ) → length key ≡ 16 → place ≤ 65535
-          → openAnswer D key pack place (seal E payload pack place) ≡ Done (length payload)
+          → answerOf D key pack place (seal E payload pack place) ≡ Done (length payload)
       answer-sealed key k l =
           by-check D key pack place (seal E payload pack place) k (seal-length .0) l true (rw opened-sealed (passes-plain payload pack place h))
           ∙ rw (opened-sealed, used-plain payload pack place h)
@@ -125,8 +125,8 @@ module _ (E D : List ℕ → List ℕ → List ℕ) (cipher : TweakableCipher 51
     only-sealed key payload C h t =
         let n = length payload in
         let B = opened D pack place C in
-        let r = openAnswer D key pack place C in
-        let parts = both (answers n r) (equal (take n (leftByOpening r B C)) payload) t in
+        let r = answerOf D key pack place C in
+        let parts = both (answers n r) (equal (take n (leftBy r B C)) payload) t in
         let done : r ≡ Done n = answering n r (parts .0) in
         let o = opening D key pack place C n done in
         let left : take (used B) B ≡ payload = rw (o .value) (equal-true (take n B) payload (rw done at (parts .1))) in
@@ -145,7 +145,7 @@ module _ (E D : List ℕ → List ℕ → List ℕ) (cipher : TweakableCipher 51
 
     -- A block that no payload seals to fails its check.
     by-payload : (key C : List ℕ) → length key ≡ 16 → OfLength 512 C → place ≤ 65535 → NoPayload E pack place C
-        → (t : Bool) → passes pack place (opened D pack place C) ≡ t → openAnswer D key pack place C ≡ CheckFailed
+        → (t : Bool) → passes pack place (opened D pack place C) ≡ t → answerOf D key pack place C ≡ CheckFailed
     by-payload key C k h l none false e = by-check D key pack place C k (h .0) l false e
     by-payload key C k h l none true e =
         let B = opened D pack place C in
@@ -153,11 +153,11 @@ module _ (E D : List ℕ → List ℕ → List ℕ) (cipher : TweakableCipher 51
         absurd (none (take (used B) B) (s .0) (s .1) (s .2))
 
     pub meaning : (key C : List ℕ) → Bytes C
-        → let answer = openAnswer D key pack place C in
-        Meaning E D answer key pack place C (leftByOpening answer (opened D pack place C) C)
+        → let answer = answerOf D key pack place C in
+        Meaning E D answer key pack place C (leftBy answer (opened D pack place C) C)
     meaning key C b =
         let B = opened D pack place C in
-        let whole : (u : ℕ) → (e : openAnswer D key pack place C ≡ Done u)
+        let whole : (u : ℕ) → (e : answerOf D key pack place C ≡ Done u)
         → Bytes (take u B) × (length (take u B) ≤ 496) × (seal E (take u B) pack place ≡ C) =
         λ u e. let o = opening D key pack place C u e in rw (o .value) at (sealed-passed C (o .block-length, b) (o .passed)) in
         record {

@@ -8,25 +8,25 @@ use lib.ListN.{length, take}
 use Rattle.blocks.specs.Bytes.{Bytes, equal}
 use Rattle.blocks.specs.One.{OneString}
 use Rattle.pack.specs.Layout.{tweak, used, passes}
-use Rattle.pack.specs.Seal.{seal}
-use Rattle.pack.specs.declared.Opened.{Opened}
-use Rattle.pack.specs.declared.Opened.the-variants.{Done, KeyLength, BlockLength, PlaceTooHigh, CheckFailed}
+use Rattle.pack.specs.Sealing.{seal}
+use Rattle.pack.specs.declared.opening.Opened.{Opened}
+use Rattle.pack.specs.declared.opening.Opened.the-variants.{Done, KeyLength, BlockLength, PlaceTooHigh, CheckFailed}
 
 -- 01, "Numbers for a call that was not done"; a call that was done has 0, and answers u.
-abbrev pub numberOfOpened : Opened → ℕ
-numberOfOpened (Done u) = 0
-numberOfOpened KeyLength = 1
-numberOfOpened BlockLength = 7
-numberOfOpened PlaceTooHigh = 6
-numberOfOpened CheckFailed = 8
+abbrev pub numberOf : Opened → ℕ
+numberOf (Done u) = 0
+numberOf KeyLength = 1
+numberOf BlockLength = 7
+numberOf PlaceTooHigh = 6
+numberOf CheckFailed = 8
 
 -- What a call leaves in the lent block: the plain block where it was opened, and what it held where it was not.
-abbrev pub leftByOpening : Opened → (plain block : List ℕ) → List ℕ
-leftByOpening (Done u) plain block = plain
-leftByOpening KeyLength plain block = block
-leftByOpening BlockLength plain block = block
-leftByOpening PlaceTooHigh plain block = block
-leftByOpening CheckFailed plain block = block
+abbrev pub leftBy : Opened → (plain block : List ℕ) → List ℕ
+leftBy (Done u) plain block = plain
+leftBy KeyLength plain block = block
+leftBy BlockLength plain block = block
+leftBy PlaceTooHigh plain block = block
+leftBy CheckFailed plain block = block
 
 -- Whether an answer is no refusal, and u.
 abbrev pub answers : ℕ → Opened → Bool
@@ -43,8 +43,8 @@ module _ (D : List ℕ → List ℕ → List ℕ) where
   opened pack place C = D (tweak pack place) C
 
   -- 01, "Opening looks at 1, 7, 6, 8".
-  unfoldable pub openAnswer : (key : List ℕ) (pack place : ℕ) (C : List ℕ) → Opened
-  openAnswer key pack place C =
+  unfoldable pub answerOf : (key : List ℕ) (pack place : ℕ) (C : List ℕ) → Opened
+  answerOf key pack place C =
       let B = opened pack place C in
       cond (not (eqb (length key) 16)) KeyLength
       (cond (not (eqb (length C) 512)) BlockLength
@@ -55,8 +55,8 @@ module _ (D : List ℕ → List ℕ → List ℕ) where
   -- payload's length as u and leaves the payload from byte 0 on".
   unfoldable pub opensTo : (key payload : List ℕ) (pack place : ℕ) (C : List ℕ) → Bool
   opensTo key payload pack place C =
-      let answer = openAnswer key pack place C in
-      let left = leftByOpening answer (opened pack place C) C in
+      let answer = answerOf key pack place C in
+      let left = leftBy answer (opened pack place C) C in
       answers (length payload) answer && equal (take (length payload) left) payload
 
   -- Demand 3: exactly one 512-byte block opens to the payload, pack and place, and it is C; counted over all of them, there is 1.

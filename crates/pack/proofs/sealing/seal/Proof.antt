@@ -9,28 +9,28 @@ use lib.ListN.{length}
 use Rattle.hch.specs.Hch.{enciphered}
 use Rattle.hch.proofs.Call.{worked}
 use Rattle.pack.specs.Layout.{plainBlock, tweak as tweakOf}
-use Rattle.pack.specs.Seal.{seal as sealedBy, sealAnswer}
+use Rattle.pack.specs.Sealing.{seal as sealedBy, answerOf}
 use Rattle.pack.proofs.Check.{tweak-length, length-plain}
-use Rattle.pack.proofs.seal.Statement.{statement}
-use Rattle.pack.proofs.seal.Tie as tie
+use Rattle.pack.proofs.sealing.seal.Statement.{statement}
+use Rattle.pack.proofs.sealing.seal.Tie as tie
 use Rattle.hch.proofs.encipher.Reads as encipher-reads
 use Rattle.pack.proofs.layout.lay_out.Reads as lay-out-reads
 use Rattle.pack.proofs.layout.tweak.Reads as tweak-reads
 
 returns : tie.Need-returns
-unfolding sealAnswer
+unfolding answerOf
 returns c = (rw (ne-eqb _ 16 (c .if1 .taken)), refl)
 
 returns-2 : tie.Need-returns-2
-unfolding sealAnswer
+unfolding answerOf
 returns-2 c = (rw (eq-eqb _ 16 (c .before .if1 .left), ne-eqb _ 512 (c .if2 .taken)), refl)
 
 returns-3 : tie.Need-returns-3
-unfolding sealAnswer
+unfolding answerOf
 returns-3 c = (rw (eq-eqb _ 16 (c .before .before .if1 .left), eq-eqb _ 512 (c .before .if2 .left), lt-ltb 496 _ (c .if3 .taken)), refl)
 
 returns-4 : tie.Need-returns-4
-unfolding sealAnswer
+unfolding answerOf
 returns-4 c =
     let d = c .before .before in
     (rw (eq-eqb _ 16 (d .before .if1 .left), eq-eqb _ 512 (d .if2 .left), le-ltb 496 _ (c .before .if3 .left), lt-ltb 65535 _ (c .if4 .taken)), refl)
@@ -51,7 +51,7 @@ same-length : tie.Need-same-length
 same-length c = search needs
 
 returns-5 : tie.Need-returns-5
-unfolding sealAnswer sealedBy
+unfolding answerOf sealedBy
 returns-5 c =
     let e = c .before .before in
     let laid = e .before .before .before .before .before in
