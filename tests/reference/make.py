@@ -20,9 +20,10 @@ sys.dont_write_bytecode = True  # --check is to write nothing at all
 import cases_aes  # noqa: E402
 import cases_field  # noqa: E402
 import cases_hch  # noqa: E402
+import cases_pack  # noqa: E402
 from lines import NO  # noqa: E402
 
-PARTS = [cases_field, cases_aes, cases_hch]
+PARTS = [cases_field, cases_aes, cases_hch, cases_pack]
 
 FOLDER = pathlib.Path(__file__).resolve().parents[2] / "crates" / "vectors"
 
