@@ -1,6 +1,7 @@
 // The fields of a line, and the line of an answer.
-ghost use Prim.Native.Nat.{_≤_};
+ghost use Prim.Native.Nat.{_/_, _≤_};
 ghost use lib.ListN.{length};
+use crate::LIMIT;
 use blocks::block::Block;
 use libc::STDOUT_FILENO;
 use text::hex::Decoded;
@@ -38,6 +39,27 @@ pub(crate) fn field(digits: &[u8], out: &mut [u8]) -> usize {
     count
 }
 
+// Decodes the field at the front of `line`, which ends at the first space, to the front of `out`. Returns the place behind the
+// space, twice the number of bytes and one more; 0 says that no space ends it, it is not hexadecimal or it has no room. `decode`
+// tests the room too: here the test is what the second promise rests on.
+pub(crate) fn first(line: &[u8], out: &mut [u8]) -> usize
+    ensures { λ r. ⌜ r ≤ length (now (line .entry)) ⌝ }
+    ensures { λ r. ⌜ r / 2 ≤ length (now (out .entry)) ⌝ }
+{
+    let end = text::line::find(line, 0, b' ');
+    if end >= line.len() {
+        return 0;
+    }
+    let next = end + 1;
+    if next / 2 > out.len() {
+        return 0;
+    }
+    let Decoded::Bytes(_) = text::hex::decode(&line[0..end], out) else {
+        return 0;
+    };
+    next
+}
+
 // Writes a block as a line.
 pub(crate) fn put_block(b: Block) {
     let mut bytes = [0u8; 16];
@@ -54,4 +76,16 @@ pub(crate) fn put_bytes(bytes: &[u8], line: &mut [u8]) {
         let end = n + 1;
         io::write_all(STDOUT_FILENO, &line[0..end]);
     }
+}
+
+// Writes `no` and the number of a refusal, or the bytes where it is 0.
+pub(crate) fn put_answer(number: u32, bytes: &[u8]) {
+    if number > 0 {
+        io::write_all(STDOUT_FILENO, b"no ");
+        io::print_decimal(STDOUT_FILENO, number as u64);
+        io::write_all(STDOUT_FILENO, b"\n");
+        return;
+    }
+    let mut line = [b'\n'; LIMIT + 1];
+    put_bytes(bytes, &mut line);
 }

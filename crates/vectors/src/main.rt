@@ -9,11 +9,15 @@
 //     ad k a          a deciphered
 //     he k t d        d enciphered by HCH under the key k and the tweak t
 //     hd k t d        d deciphered
+//     ps k p n d      d sealed under the key k as the payload of the block at the place n of the pack p
+//     po k p n b      the block b opened: the payload's length in decimal, a space, the plain block
 //
-// The fields of HCH may have any length, and be empty; those of the others are blocks. What HCH
-// refuses is answered `no` and the number of the reason, from 1 to 4.
+// p has 16 digits and n has 8. The fields k, t, d and b of the last four may have any length, and be
+// empty; those of the others are blocks. What HCH or the pack refuses is answered `no` and the number
+// of the reason.
 mod fields;
 mod message;
+mod sealing;
 
 use blocks::aes::ExpandedKey;
 use blocks::block::Block;
@@ -23,6 +27,9 @@ use libc::STDOUT_FILENO;
 
 // The most characters that a line may have in front of its line feed.
 const LIMIT: usize = 16384;
+
+// The most bytes that the digits of a line stand for.
+const BYTES: usize = LIMIT / 2;
 
 // A proved loop has to end, and nothing says that the input does. So the loop counts its turns down,
 // from a number that no run uses up.
@@ -82,16 +89,32 @@ fn reply(line: &[u8]) -> bool {
     run(&line[0..end], &line[next..])
 }
 
-// A command on the rest of its line, of which all but HCH read blocks.
+// A command on the rest of its line: those of HCH and of a pack begin with a key, all others read blocks.
 fn run(command: &[u8], rest: &[u8]) -> bool {
     if command.len() == 2 {
-        if command[0] == b'h' {
-            return message::reply(command[1], rest);
+        let scheme = command[0];
+        if scheme == b'h' || scheme == b'p' {
+            return run_keyed(scheme, command[1], rest);
         }
     }
-    let mut data = [0u8; LIMIT / 2];
+    let mut data = [0u8; BYTES];
     let n = fields::blocks_from(rest, &mut data);
     run_blocks(command, &data[0..n])
+}
+
+// A command under a key of any length.
+fn run_keyed(scheme: u8, way: u8, rest: &[u8]) -> bool {
+    let mut key = [0u8; BYTES];
+    let next = fields::first(rest, &mut key);
+    if next == 0 {
+        return false;
+    }
+    let key = &key[0..next / 2];
+    let rest = &rest[next..];
+    if scheme == b'h' {
+        return message::reply(way, key, rest);
+    }
+    sealing::reply(way, key, rest)
 }
 
 // A command on the bytes of its blocks.
