@@ -2,7 +2,7 @@
 -- Assumes nothing.
 use Prim.Native.Nat.{ℕ, _≤_}
 use mathlib.Core.Path.{_≡_, refl, sym, ap, _∙_}
-use mathlib.Core.Bool.{Bool, true, false, cond, not, _&&_, false≢true}
+use mathlib.Core.Bool.{Bool, true, false, cond, not, false≢true}
 use mathlib.Core.List.{List}
 use native.Mathlib.Omega.{arith}
 use borrow.Author.Tests.{eqb-true, ltb-false, eq-eqb, le-ltb}
@@ -10,7 +10,6 @@ use lib.Dec.{ltb, eqb}
 use lib.ListN.{length, take}
 use lib.Seq.{length-take-le}
 use Rattle.blocks.specs.Bytes.{Bytes, OfLength, equal}
-use Rattle.blocks.specs.One.{ExactlyOne}
 use Rattle.blocks.specs.Permutation.{Cipher, TweakableCipher}
 use Rattle.blocks.proofs.Bytes.{below-take}
 use Rattle.blocks.proofs.One.{both, equal-refl, equal-true, one-string}

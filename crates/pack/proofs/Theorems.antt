@@ -1,10 +1,9 @@
 -- The theorems that specs/Theorems.antt names, and HCH in the place of the cipher.
 -- Assumes nothing.
-use Prim.Native.Nat.{ℕ, _≤_}
-use mathlib.Core.Path.{_≡_, sym}
+use Prim.Native.Nat.{ℕ}
+use mathlib.Core.Path.{_≡_}
 use mathlib.Core.List.{List}
 use native.Mathlib.Omega.{arith}
-use lib.ListN.{length}
 use Rattle.blocks.specs.Bytes.{Bytes, OfLength}
 use Rattle.blocks.specs.Permutation.{TweakableCipher}
 use Rattle.hch.specs.Hch.{enciphered, deciphered}
@@ -19,15 +18,11 @@ use Rattle.pack.proofs.OneBlock.{opened-sealed, answer-sealed, only-sea
 pub hch-tweakable : (key : List ℕ) → TweakableCipher 512 (enciphered key) (deciphered key)
 hch-tweakable key T h = hch.theorems .hch-cipher key T 512 h (omega arith)
 
--- What was deciphered has 512 bytes, and is given back when it is enciphered again.
-module _ (key : List ℕ) (pack place : ℕ) (C : List ℕ) (h : OfLength 512 C) where
-  pub opened-length : length (opened (deciphered key) pack place C) ≡ 512
-  unfolding opened
-  opened-length = hch-tweakable key (tweak pack place) (tweak-length pack place) .inverse-keeps C h .0
-
-  pub given-back : enciphered key (tweak pack place) (opened (deciphered key) pack place C) ≡ C
-  unfolding opened
-  given-back = hch-tweakable key (tweak pack place) (tweak-length pack place) .undoes C h
+-- What was deciphered is given back when it is enciphered again.
+pub given-back : (key : List ℕ) (pack place : ℕ) (C : List ℕ) → OfLength 512 C
+    → enciphered key (tweak pack place) (opened (deciphered key) pack place C) ≡ C
+unfolding opened
+given-back key pack place C h = hch-tweakable key (tweak pack place) (tweak-length pack place) .undoes C h
 
 -- The two equations of opening tell what they mean.
 pub told : (key C B : List ℕ) (pack place : ℕ) (answer : Opened) → Bytes C → answer ≡ answerOf (deciphered key) key pack place C

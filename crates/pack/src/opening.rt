@@ -2,6 +2,7 @@
 ghost use mathlib.Core.Path.{_≡_};
 ghost use Rattle.hch.specs.Hch.{enciphered, deciphered};
 ghost use Rattle.pack.specs.Opening.{opened, numberOf, answerOf, leftBy, Meaning};
+use crate::cipher;
 use crate::layout;
 
 // What opening answers: the length of the payload, or why the block was not opened.
@@ -44,11 +45,10 @@ pub fn open(key: &[u8], pack: u64, place: u32, block: &mut [u8]) -> Opened
     if place > 65535 {
         return Opened::PlaceTooHigh;
     }
-    let tweak = layout::tweak(pack, place);
-    hch::decipher(key, &tweak, block);
+    cipher::decipher(key, pack, place, block);
     if layout::passes(pack, place, block) {
         return Opened::Done(layout::used(block));
     }
-    hch::encipher(key, &tweak, block);
+    cipher::encipher(key, pack, place, block);
     Opened::CheckFailed
 }

@@ -2,6 +2,7 @@
 ghost use mathlib.Core.Path.{_≡_};
 ghost use Rattle.hch.specs.Hch.{enciphered};
 ghost use Rattle.pack.specs.Sealing.{seal as sealedBy, numberOf, answerOf, leftBy};
+use crate::cipher;
 use crate::layout;
 
 // What sealing answers: that it was done, or why it was not.
@@ -45,8 +46,7 @@ pub fn seal(key: &[u8], payload: &[u8], pack: u64, place: u32, block: &mut [u8])
     if place > 65535 {
         return Sealed::PlaceTooHigh;
     }
-    let tweak = layout::tweak(pack, place);
     layout::lay_out(payload, pack, place, block);
-    hch::encipher(key, &tweak, block);
+    cipher::encipher(key, pack, place, block);
     Sealed::Done
 }

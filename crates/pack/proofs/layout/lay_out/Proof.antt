@@ -5,8 +5,6 @@ use denote.Ref.{now}
 use Rattle.pack.proofs.Check.{laid-out}
 use Rattle.pack.proofs.layout.lay_out.Statement.{statement}
 use Rattle.pack.proofs.layout.lay_out.Tie as tie
-use Rattle.pack.proofs.layout.copy.Reads as copy-reads
-use Rattle.pack.proofs.layout.put.Reads as put-reads
 
 copy-requires : tie.Need-copy-requires
 copy-requires c κs = search needs

@@ -10,8 +10,6 @@ use Rattle.pack.proofs.Parts.{none-differ}
 use Rattle.pack.proofs.Check.{passes-parts}
 use Rattle.pack.proofs.layout.passes.Statement.{statement}
 use Rattle.pack.proofs.layout.passes.Tie as tie
-use Rattle.pack.proofs.layout.difference.Reads as difference-reads
-use Rattle.pack.proofs.layout.used.Reads as used-reads
 
 used-requires : tie.Need-used-requires
 used-requires c κs = search needs

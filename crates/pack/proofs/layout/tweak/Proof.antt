@@ -5,7 +5,6 @@ use Rattle.blocks.specs.Bytes.{bytes, overwrite}
 use Rattle.pack.specs.Layout.{tweak as tweakOf}
 use Rattle.pack.proofs.layout.tweak.Statement.{statement}
 use Rattle.pack.proofs.layout.tweak.Tie as tie
-use Rattle.pack.proofs.layout.put.Reads as put-reads
 
 slice-aggregate-put : tie.Need-slice-aggregate-put
 slice-aggregate-put c = search needs

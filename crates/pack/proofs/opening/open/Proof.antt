@@ -1,29 +1,19 @@
 -- Each refusal is that of its test, and the check decides the rest; what fails it is enciphered again.
 -- Assumes nothing.
-use Prim.Native.Nat.{_≤_}
 use mathlib.Core.Path.{_≡_, refl, sym, _∙_}
 use mathlib.Core.Bool.{true, false}
-use native.Mathlib.Omega.{arith}
 use borrow.Author.Needs.{needs}
-use borrow.Author.Tests.{lt-ltb, le-ltb, eq-eqb, ne-eqb}
+use borrow.Author.Tests.{lt-ltb, eq-eqb, ne-eqb}
 use denote.Ref.{now}
-use lib.ListN.{length}
-use Rattle.blocks.specs.Bytes.{OfLength}
-use Rattle.hch.specs.Hch.{enciphered, deciphered}
-use Rattle.hch.proofs.Call.{worked}
-use Rattle.pack.specs.Layout.{tweak as tweakOf, passes as passesCheck}
+use Rattle.blocks.specs.Bytes.{Bytes}
+use Rattle.hch.specs.Hch.{deciphered}
+use Rattle.pack.specs.Layout.{passes as passesCheck}
 use Rattle.pack.specs.Opening.{opened, answerOf}
-use Rattle.pack.proofs.Check.{tweak-length}
-use Rattle.pack.proofs.OneBlock.{by-check}
-use Rattle.pack.proofs.Theorems.{opened-length, given-back, told}
 use Rattle.pack.specs.declared.opening.Opened.the-variants.{Done, KeyLength, BlockLength, PlaceTooHigh, CheckFailed}
+use Rattle.pack.proofs.OneBlock.{by-check}
+use Rattle.pack.proofs.Theorems.{given-back, told}
 use Rattle.pack.proofs.opening.open.Statement.{statement}
 use Rattle.pack.proofs.opening.open.Tie as tie
-use Rattle.hch.proofs.decipher.Reads as decipher-reads
-use Rattle.hch.proofs.encipher.Reads as encipher-reads
-use Rattle.pack.proofs.layout.passes.Reads as passes-reads
-use Rattle.pack.proofs.layout.tweak.Reads as tweak-reads
-use Rattle.pack.proofs.layout.used.Reads as used-reads
 
 returns : tie.Need-returns
 unfolding answerOf
@@ -49,12 +39,6 @@ returns-3 c =
     rw (eq-eqb _ 16 (c .before .before .if1 .left), eq-eqb _ 512 (c .before .if2 .left), lt-ltb 65535 _ (c .if3 .taken)) in
     (answered, (refl, told (now (a .key)) (now (a .block)) (now (a .block)) (a .pack) (a .place) PlaceTooHigh (λ i. c .before .before .before .slice-known .given i .fits) answered refl))
 
-tweak-requires : tie.Need-tweak-requires
-tweak-requires c κs = search needs
-
-slice-aggregate-decipher : tie.Need-slice-aggregate-decipher
-slice-aggregate-decipher c = search needs
-
 decipher-requires : tie.Need-decipher-requires
 decipher-requires c κs = search needs
 
@@ -72,28 +56,20 @@ unfolding opened
 returns-4 c =
     let p = c .before .before .before in
     let d = p .before .before .before .before in
-    let t = d .before .before .before in
-    let d3 = t .before in
+    let d3 = d .before .before in
     let d2 = d3 .before in
     let d1 = d2 .before in
     let known = d1 .before in
     let a = known .before .before .args in
     let key = now (a .key) in
-    let tweak = tweakOf (a .pack) (a .place) in
     let C = now (a .block) in
     let B = opened (deciphered key) (a .pack) (a .place) C in
-    let plain : d .decipher .last .1 .1 .0 ≡ B =
-    worked key tweak C B (d .decipher .last .1 .1 .0) (d .decipher .result) (rw (t .tweak .ensures) at (d .decipher .ensures .0))
-    (rw (t .tweak .ensures) at (d .decipher .ensures .1 .0)) (d1 .if1 .left) (tweak-length (a .pack) (a .place) .0)
-    (omega (arith, d2 .if2 .left)) (omega (arith, d2 .if2 .left)) in
+    let plain : d .decipher .last .1 .1 .1 .0 ≡ B = d .decipher .ensures in
     let passed : passesCheck (a .pack) (a .place) B ≡ true = rw plain at (sym (p .passes .ensures) ∙ c .before .before .if4 .taken) in
     let answered : Done (c .used .result) ≡ answerOf (deciphered key) key (a .pack) (a .place) C =
     rw (c .used .ensures, plain)
     (sym (by-check (deciphered key) key (a .pack) (a .place) C (d1 .if1 .left) (d2 .if2 .left) (d3 .if3 .left) true passed)) in
-    (answered, (plain, told key C (d .decipher .last .1 .1 .0) (a .pack) (a .place) (Done (c .used .result)) (λ i. known .slice-known .given i .fits) answered plain))
-
-slice-aggregate-encipher : tie.Need-slice-aggregate-encipher
-slice-aggregate-encipher c = search needs
+    (answered, (plain, told key C _ (a .pack) (a .place) (Done (c .used .result)) (λ i. known .slice-known .given i .fits) answered plain))
 
 encipher-requires : tie.Need-encipher-requires
 encipher-requires c κs = search needs
@@ -104,34 +80,25 @@ same-length-2 c = search needs
 returns-5 : tie.Need-returns-5
 unfolding opened
 returns-5 c =
-    let e = c .before .before in
-    let p = e .before .before .before .before in
+    let again = c .before .before in
+    let p = again .before .before .before in
     let d = p .before .before .before .before in
-    let t = d .before .before .before in
-    let d3 = t .before in
+    let d3 = d .before .before in
     let d2 = d3 .before in
     let d1 = d2 .before in
     let known = d1 .before in
     let a = known .before .before .args in
     let key = now (a .key) in
-    let tweak = tweakOf (a .pack) (a .place) in
     let C = now (a .block) in
     let B = opened (deciphered key) (a .pack) (a .place) C in
-    let plain : d .decipher .last .1 .1 .0 ≡ B =
-    worked key tweak C B (d .decipher .last .1 .1 .0) (d .decipher .result) (rw (t .tweak .ensures) at (d .decipher .ensures .0))
-    (rw (t .tweak .ensures) at (d .decipher .ensures .1 .0)) (d1 .if1 .left) (tweak-length (a .pack) (a .place) .0)
-    (omega (arith, d2 .if2 .left)) (omega (arith, d2 .if2 .left)) in
-    let lent : OfLength 512 C = (d2 .if2 .left, λ i. known .slice-known .given i .fits) in
-    let size = opened-length key (a .pack) (a .place) C lent in
-    let failed : passesCheck (a .pack) (a .place) B ≡ false = rw plain at (sym (p .passes .ensures) ∙ e .before .before .before .if4 .left) in
+    let plain : d .decipher .last .1 .1 .1 .0 ≡ B = d .decipher .ensures in
+    let failed : passesCheck (a .pack) (a .place) B ≡ false = rw plain at (sym (p .passes .ensures) ∙ again .before .before .if4 .left) in
     let answered : CheckFailed ≡ answerOf (deciphered key) key (a .pack) (a .place) C =
     sym (by-check (deciphered key) key (a .pack) (a .place) C (d1 .if1 .left) (d2 .if2 .left) (d3 .if3 .left) false failed) in
-    let left : e .encipher .last .1 .1 .0 ≡ C =
-    worked key tweak B (enciphered key tweak B) (e .encipher .last .1 .1 .0) (e .encipher .result)
-    (rw (t .tweak .ensures, plain) at (e .encipher .ensures .0)) (rw (t .tweak .ensures, plain) at (e .encipher .ensures .1))
-    (d1 .if1 .left) (tweak-length (a .pack) (a .place) .0) (omega (arith, size)) (omega (arith, size))
-    ∙ given-back key (a .pack) (a .place) C lent in
-    (answered, (left, told key C (e .encipher .last .1 .1 .0) (a .pack) (a .place) CheckFailed (lent .1) answered left))
+    let bytes : Bytes C = λ i. known .slice-known .given i .fits in
+    let left : again .encipher .last .1 .1 .1 .0 ≡ C =
+    rw (again .encipher .ensures, plain) (given-back key (a .pack) (a .place) C (d2 .if2 .left, bytes)) in
+    (answered, (left, told key C _ (a .pack) (a .place) CheckFailed bytes answered left))
 
 pub open-spec : {M : Type 1} → statement M
 open-spec =
@@ -140,14 +107,11 @@ open-spec =
     returns
     returns-2
     returns-3
-    tweak-requires
-    slice-aggregate-decipher
     decipher-requires
     passes-requires
     used-requires
     same-length
     returns-4
-    slice-aggregate-encipher
     encipher-requires
     same-length-2
     returns-5)

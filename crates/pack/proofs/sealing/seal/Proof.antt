@@ -1,21 +1,11 @@
 -- Each refusal is that of its test; where none applies, the plain block is laid out and enciphered under its tweak.
 -- Assumes nothing.
-use mathlib.Core.Path.{_≡_, refl}
-use native.Mathlib.Omega.{arith}
+use mathlib.Core.Path.{refl}
 use borrow.Author.Needs.{needs}
 use borrow.Author.Tests.{lt-ltb, le-ltb, eq-eqb, ne-eqb}
-use denote.Ref.{now}
-use lib.ListN.{length}
-use Rattle.hch.specs.Hch.{enciphered}
-use Rattle.hch.proofs.Call.{worked}
-use Rattle.pack.specs.Layout.{plainBlock, tweak as tweakOf}
 use Rattle.pack.specs.Sealing.{seal as sealedBy, answerOf}
-use Rattle.pack.proofs.Check.{tweak-length, length-plain}
 use Rattle.pack.proofs.sealing.seal.Statement.{statement}
 use Rattle.pack.proofs.sealing.seal.Tie as tie
-use Rattle.hch.proofs.encipher.Reads as encipher-reads
-use Rattle.pack.proofs.layout.lay_out.Reads as lay-out-reads
-use Rattle.pack.proofs.layout.tweak.Reads as tweak-reads
 
 returns : tie.Need-returns
 unfolding answerOf
@@ -35,14 +25,8 @@ returns-4 c =
     let d = c .before .before in
     (rw (eq-eqb _ 16 (d .before .if1 .left), eq-eqb _ 512 (d .if2 .left), le-ltb 496 _ (c .before .if3 .left), lt-ltb 65535 _ (c .if4 .taken)), refl)
 
-tweak-requires : tie.Need-tweak-requires
-tweak-requires c κs = search needs
-
 lay-out-requires : tie.Need-lay-out-requires
 lay-out-requires c κs = search needs
-
-slice-aggregate-encipher : tie.Need-slice-aggregate-encipher
-slice-aggregate-encipher c = search needs
 
 encipher-requires : tie.Need-encipher-requires
 encipher-requires c κs = search needs
@@ -53,22 +37,14 @@ same-length c = search needs
 returns-5 : tie.Need-returns-5
 unfolding answerOf sealedBy
 returns-5 c =
-    let e = c .before .before in
-    let laid = e .before .before .before .before .before in
-    let t = laid .before .before in
-    let d4 = t .before in
+    let work = c .before .before in
+    let laid = work .before .before .before .before in
+    let d4 = laid .before .before in
     let d3 = d4 .before in
     let d2 = d3 .before in
-    let d1 = d2 .before in
-    let a = d1 .before .before .before .before .args in
-    let tweak = tweakOf (a .pack) (a .place) in
-    let plain = plainBlock (now (a .payload)) (a .pack) (a .place) in
-    let size : length plain ≡ 512 = length-plain (now (a .payload)) (a .pack) (a .place) (d3 .if3 .left) in (
+    let d1 = d2 .before in (
       rw (eq-eqb _ 16 (d1 .if1 .left), eq-eqb _ 512 (d2 .if2 .left), le-ltb 496 _ (d3 .if3 .left), le-ltb 65535 _ (d4 .if4 .left)),
-      worked (now (a .key)) tweak plain (enciphered (now (a .key)) tweak plain) (e .encipher .last .1 .1 .0) (e .encipher .result)
-          (rw (t .tweak .ensures, laid .lay-out .ensures) at (e .encipher .ensures .0))
-          (rw (t .tweak .ensures, laid .lay-out .ensures) at (e .encipher .ensures .1))
-          (d1 .if1 .left) (tweak-length (a .pack) (a .place) .0) (omega (arith, size)) (omega (arith, size)),
+      rw (work .encipher .ensures, laid .lay-out .ensures),
     )
 
 pub seal-spec : {M : Type 1} → statement M
@@ -79,9 +55,7 @@ seal-spec =
     returns-2
     returns-3
     returns-4
-    tweak-requires
     lay-out-requires
-    slice-aggregate-encipher
     encipher-requires
     same-length
     returns-5)

@@ -1,0 +1,22 @@
+// HCH on a block of 512 bytes, under the tweak of a pack and a place.
+ghost use mathlib.Core.Path.{_≡_};
+ghost use lib.ListN.{length};
+ghost use Rattle.hch.specs.Hch.{enciphered, deciphered};
+ghost use Rattle.pack.specs.Layout.{tweak as tweakOf};
+use crate::layout;
+
+pub(crate) fn encipher(key: &[u8], pack: u64, place: u32, block: &mut [u8])
+    requires { ⌜ (length (now key) ≡ 16) × (length (now block) ≡ 512) ⌝ }
+    ensures { λ _. ⌜ now (block .exit) ≡ enciphered (now (key .entry)) (tweakOf pack place) (now (block .entry)) ⌝ }
+{
+    let tweak = layout::tweak(pack, place);
+    hch::encipher(key, &tweak, block);
+}
+
+pub(crate) fn decipher(key: &[u8], pack: u64, place: u32, block: &mut [u8])
+    requires { ⌜ (length (now key) ≡ 16) × (length (now block) ≡ 512) ⌝ }
+    ensures { λ _. ⌜ now (block .exit) ≡ deciphered (now (key .entry)) (tweakOf pack place) (now (block .entry)) ⌝ }
+{
+    let tweak = layout::tweak(pack, place);
+    hch::decipher(key, &tweak, block);
+}
