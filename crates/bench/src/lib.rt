@@ -4,6 +4,8 @@ ghost use Rattle.blocks.specs.Bytes.{block, bytes, overwrite};
 ghost use Rattle.blocks.specs.Aes.{Nr, encipher};
 ghost use Rattle.hch.specs.Hch.{enciphered, deciphered};
 ghost use Rattle.hch.specs.Call.{numberOf, answerOf, leftBy};
+ghost use Rattle.pack.specs.Sealing.{seal, numberOf as numberOfSealed, answerOf as answerOfSealing, leftBy as leftBySealing};
+ghost use Rattle.pack.specs.Opening.{opened, numberOf as numberOfOpened, answerOf as answerOfOpening, leftBy as leftByOpening};
 use blocks::aes::ExpandedKey;
 use blocks::block::Block;
 
@@ -32,4 +34,28 @@ pub extern "C" fn bench_hch_decipher(key: &[u8], tweak: &[u8], data: &mut [u8]) 
     ensures { λ _. ⌜ now («data» .exit) ≡ leftBy (answerOf (now (key .entry)) (now (tweak .entry)) (now («data» .entry))) (deciphered (now (key .entry)) (now (tweak .entry)) (now («data» .entry))) (now («data» .entry)) ⌝ }
 {
     hch::decipher(key, tweak, data).number()
+}
+
+// Seals a payload into a block, and answers 01's number, 0 where it was done.
+#[no_mangle]
+pub extern "C" fn bench_seal(
+    key: &[u8],
+    payload: &[u8],
+    pack: u64,
+    place: u32,
+    block: &mut [u8],
+) -> u32
+    ensures { λ r. ⌜ r ≡ numberOfSealed (answerOfSealing (now (key .entry)) (now (payload .entry)) place (now (block .entry))) ⌝ }
+    ensures { λ _. ⌜ now (block .exit) ≡ leftBySealing (answerOfSealing (now (key .entry)) (now (payload .entry)) place (now (block .entry))) (seal (enciphered (now (key .entry))) (now (payload .entry)) pack place) (now (block .entry)) ⌝ }
+{
+    pack::seal(key, payload, pack, place, block).number()
+}
+
+// Opens a block, and answers 01's number, 0 where it was done.
+#[no_mangle]
+pub extern "C" fn bench_open(key: &[u8], pack: u64, place: u32, block: &mut [u8]) -> u32
+    ensures { λ r. ⌜ r ≡ numberOfOpened (answerOfOpening (deciphered (now (key .entry))) (now (key .entry)) pack place (now (block .entry))) ⌝ }
+    ensures { λ _. ⌜ now (block .exit) ≡ leftByOpening (answerOfOpening (deciphered (now (key .entry))) (now (key .entry)) pack place (now (block .entry))) (opened (deciphered (now (key .entry))) pack place (now (block .entry))) (now (block .entry)) ⌝ }
+{
+    pack::open(key, pack, place, block).number()
 }

@@ -3,11 +3,11 @@
 use Prim.Native.Nat.{ℕ, _≤_}
 use mathlib.Core.Path.{_≡_, refl, sym, ap, _∙_}
 use mathlib.Core.Bool.{Bool, true, false, cond, not, false≢true}
-use mathlib.Core.List.{List}
+use mathlib.Core.List.{List, [], _∷_}
 use native.Mathlib.Omega.{arith}
 use borrow.Author.Tests.{eqb-true, ltb-false, eq-eqb, le-ltb}
 use lib.Dec.{ltb, eqb}
-use lib.ListN.{length, take}
+use lib.ListN.{length, getD, take}
 use lib.Seq.{length-take-le}
 use Rattle.blocks.specs.Bytes.{Bytes, OfLength, equal}
 use Rattle.blocks.specs.Permutation.{Cipher, TweakableCipher}
@@ -15,7 +15,7 @@ use Rattle.blocks.proofs.Bytes.{below-take}
 use Rattle.blocks.proofs.One.{both, equal-refl, equal-true, one-string}
 use Rattle.pack.specs.Layout.{plainBlock, tweak, used, passes}
 use Rattle.pack.specs.Sealing.{seal}
-use Rattle.pack.specs.Opening.{numberOf, leftBy, answers, opened, answerOf, opensTo, OneBlock, NoPayload, Meaning}
+use Rattle.pack.specs.Opening.{numberOf, valuesOf, leftBy, opened, answerOf, opensTo, OneBlock, NoPayload, Meaning}
 use Rattle.pack.specs.declared.opening.Opened.{Opened}
 use Rattle.pack.specs.declared.opening.Opened.the-variants.{Done, KeyLength, BlockLength, PlaceTooHigh, CheckFailed}
 use Rattle.pack.proofs.Check.{tweak-length, plain-length, used-plain, take-plain, passes-plain, passes-only}
@@ -31,7 +31,7 @@ by-done false b c d u v e = absurd (omega (arith, ap numberOf e))
 by-done true false c d u v e = absurd (omega (arith, ap numberOf e))
 by-done true true true d u v e = absurd (omega (arith, ap numberOf e))
 by-done true true false false u v e = absurd (omega (arith, ap numberOf e))
-by-done true true false true u v e = (refl, refl, refl, refl, eqb-true u v (ap (answers v) e ∙ eq-eqb v v refl))
+by-done true true false true u v e = (refl, refl, refl, refl, ap (λ r. getD (valuesOf r) 0 0) e)
 
 by-failed : (a b c d : Bool) (u : ℕ) → byTests a b c d u ≡ CheckFailed → d ≡ false
 by-failed false b c d u e = absurd (omega (arith, ap numberOf e))
@@ -74,13 +74,14 @@ module _ (D : List ℕ → List ℕ → List ℕ) (key : List ℕ) (pack place :
   unfolding answerOf
   by-check k l h t e = rw (eq-eqb _ 16 k, eq-eqb _ 512 l, le-ltb 65535 _ h, e)
 
--- What a block opens to: an answer that is no refusal.
-answering : (u : ℕ) (r : Opened) → answers u r ≡ true → r ≡ Done u
-answering u (Done v) e = ap Done (eqb-true v u e)
-answering u KeyLength e = absurd (false≢true e)
-answering u BlockLength e = absurd (false≢true e)
-answering u PlaceTooHigh e = absurd (false≢true e)
-answering u CheckFailed e = absurd (false≢true e)
+-- An answer that returns u is no refusal.
+returning : (u : ℕ) (r : Opened) → equal (valuesOf r) (u ∷ []) ≡ true → r ≡ Done u
+unfolding equal
+returning u (Done v) e = ap Done (eqb-true v u (both (eqb v u) true e .0))
+returning u KeyLength e = absurd (false≢true e)
+returning u BlockLength e = absurd (false≢true e)
+returning u PlaceTooHigh e = absurd (false≢true e)
+returning u CheckFailed e = absurd (false≢true e)
 
 -- ---- over any tweakable cipher of 512 bytes
 
@@ -125,8 +126,8 @@ module _ (E D : List ℕ → List ℕ → List ℕ) (cipher : TweakableCipher 51
         let n = length payload in
         let B = opened D pack place C in
         let r = answerOf D key pack place C in
-        let parts = both (answers n r) (equal (take n (leftBy r B C)) payload) t in
-        let done : r ≡ Done n = answering n r (parts .0) in
+        let parts = both (equal (valuesOf r) (n ∷ [])) (equal (take n (leftBy r B C)) payload) t in
+        let done : r ≡ Done n = returning n r (parts .0) in
         let o = opening D key pack place C n done in
         let left : take (used B) B ≡ payload = rw (o .value) (equal-true (take n B) payload (rw done at (parts .1))) in
         sym (rw left at (sealed-passed C h (o .passed) .2))
@@ -137,7 +138,7 @@ module _ (E D : List ℕ → List ℕ → List ℕ) (cipher : TweakableCipher 51
     one-block key payload k b h l =
         one-string (record {
           among = seal-length payload b h;
-          passes = rw (answer-sealed payload b h key k l, opened-sealed payload b h, take-plain payload pack place h, eq-eqb (length payload) (length payload) refl)
+          passes = rw (answer-sealed payload b h key k l, opened-sealed payload b h, take-plain payload pack place h, equal-refl (length payload ∷ []))
               (equal-refl payload);
           only = only-sealed key payload;
         })

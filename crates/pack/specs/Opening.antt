@@ -1,8 +1,8 @@
 -- Opening: what it answers, what it leaves in the lent block, and what that means.
 use Prim.Native.Nat.{ℕ, _≤_}
 use mathlib.Core.Path.{_≡_}
-use mathlib.Core.Bool.{Bool, false, cond, not, _&&_}
-use mathlib.Core.List.{List}
+use mathlib.Core.Bool.{Bool, cond, not, _&&_}
+use mathlib.Core.List.{List, [], _∷_}
 use lib.Dec.{ltb, eqb}
 use lib.ListN.{length, take}
 use Rattle.blocks.specs.Bytes.{Bytes, equal}
@@ -12,13 +12,21 @@ use Rattle.pack.specs.Sealing.{seal}
 use Rattle.pack.specs.declared.opening.Opened.{Opened}
 use Rattle.pack.specs.declared.opening.Opened.the-variants.{Done, KeyLength, BlockLength, PlaceTooHigh, CheckFailed}
 
--- 01, "Numbers for a call that was not done"; a call that was done has 0, and answers u.
+-- 01, "Numbers for a call that was not done"; a call that was done has 0.
 abbrev pub numberOf : Opened → ℕ
 numberOf (Done u) = 0
 numberOf KeyLength = 1
 numberOf BlockLength = 7
 numberOf PlaceTooHigh = 6
 numberOf CheckFailed = 8
+
+-- What a call returns beside: u where the block was opened; a refusal returns its number alone.
+abbrev pub valuesOf : Opened → List ℕ
+valuesOf (Done u) = u ∷ []
+valuesOf KeyLength = []
+valuesOf BlockLength = []
+valuesOf PlaceTooHigh = []
+valuesOf CheckFailed = []
 
 -- What a call leaves in the lent block: the plain block where it was opened, and what it held where it was not.
 abbrev pub leftBy : Opened → (plain block : List ℕ) → List ℕ
@@ -27,14 +35,6 @@ leftBy KeyLength plain block = block
 leftBy BlockLength plain block = block
 leftBy PlaceTooHigh plain block = block
 leftBy CheckFailed plain block = block
-
--- Whether an answer is no refusal, and u.
-abbrev pub answers : ℕ → Opened → Bool
-answers u (Done v) = eqb v u
-answers u KeyLength = false
-answers u BlockLength = false
-answers u PlaceTooHigh = false
-answers u CheckFailed = false
 
 -- D is deciphering under the key, by the tweak.
 module _ (D : List ℕ → List ℕ → List ℕ) where
@@ -57,7 +57,7 @@ module _ (D : List ℕ → List ℕ → List ℕ) where
   opensTo key payload pack place C =
       let answer = answerOf key pack place C in
       let left = leftBy answer (opened pack place C) C in
-      answers (length payload) answer && equal (take (length payload) left) payload
+      equal (valuesOf answer) (length payload ∷ []) && equal (take (length payload) left) payload
 
   -- Demand 3: exactly one 512-byte block opens to the payload, pack and place, and it is C; counted over all of them, there is 1.
   abbrev pub OneBlock : (key payload : List ℕ) (pack place : ℕ) (C : List ℕ) → Type 0

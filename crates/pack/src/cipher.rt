@@ -5,6 +5,7 @@ ghost use Rattle.hch.specs.Hch.{enciphered, deciphered};
 ghost use Rattle.pack.specs.Layout.{tweak as tweakOf};
 use crate::layout;
 
+// Enciphers the block in place.
 pub(crate) fn encipher(key: &[u8], pack: u64, place: u32, block: &mut [u8])
     requires { ⌜ (length (now key) ≡ 16) × (length (now block) ≡ 512) ⌝ }
     ensures { λ _. ⌜ now (block .exit) ≡ enciphered (now (key .entry)) (tweakOf pack place) (now (block .entry)) ⌝ }
@@ -13,6 +14,7 @@ pub(crate) fn encipher(key: &[u8], pack: u64, place: u32, block: &mut [u8])
     hch::encipher(key, &tweak, block);
 }
 
+// Deciphers the block in place.
 pub(crate) fn decipher(key: &[u8], pack: u64, place: u32, block: &mut [u8])
     requires { ⌜ (length (now key) ≡ 16) × (length (now block) ≡ 512) ⌝ }
     ensures { λ _. ⌜ now (block .exit) ≡ deciphered (now (key .entry)) (tweakOf pack place) (now (block .entry)) ⌝ }

@@ -1,0 +1,22 @@
+-- The call's answer, as its number.
+-- Assumes nothing.
+use borrow.Author.Needs.{needs}
+use Rattle.bench.proofs.bench_seal.Statement.{statement}
+use Rattle.bench.proofs.bench_seal.Tie as tie
+
+seal-requires : tie.Need-seal-requires
+seal-requires c κs = search needs
+
+number-requires : tie.Need-number-requires
+number-requires c κs = search needs
+
+same-length : tie.Need-same-length
+same-length c = search needs
+
+returns : tie.Need-returns
+returns c =
+    let e = c .before .before .before in
+    (rw (c .number .ensures, e .seal .ensures .0), rw (e .seal .ensures .0) at (e .seal .ensures .1))
+
+pub bench-seal-spec : {M : Type 1} → statement M
+bench-seal-spec = tie.close (tie.spec seal-requires number-requires same-length returns)
