@@ -19,13 +19,18 @@ pub copy-next : (s t : List ℕ) (k : ℕ) → k < length t → set (overwrite (
 copy-next s t k l = rw (add-one k, drop-cons t k 0 l, overwrite-cons k (getD t k 0) (drop (suc k) t) s)
 
 -- Differences are gathered by `or`: there is none where no byte differs.
-pub none-differ : (c d : ℕ) → eqb (bitOr c d) 0 ≡ (eqb c 0 && eqb d 0)
+none-differ : (c d : ℕ) → eqb (bitOr c d) 0 ≡ (eqb c 0 && eqb d 0)
 none-differ zero zero = refl
 none-differ zero (suc d) = rw (or-zero-l (suc d))
 none-differ (suc c) zero = rw (or-zero-r (suc c), eqb·suc-zero c)
 none-differ (suc c) (suc d) =
     rw (eqb·suc-zero c)
     (ne-eqb (bitOr (suc c) (suc d)) 0 (λ e. omega (arith, e, or-add-and (suc c) (suc d), and-le-l (suc c) (suc d), and-le-r (suc c) (suc d))))
+
+-- Four parts, each compared by itself.
+pub none-of-four : (a b c d : ℕ) {p q r s : Bool} → eqb a 0 ≡ p → eqb b 0 ≡ q → eqb c 0 ≡ r → eqb d 0 ≡ s
+    → eqb (bitOr (bitOr (bitOr a b) c) d) 0 ≡ (p && q && r && s)
+none-of-four a b c d e f g h = rw (none-differ (bitOr (bitOr a b) c) d, none-differ (bitOr a b) c, none-differ a b, e, f, g, h)
 
 differ-by : (a b : ℕ) (t : Bool) → eqb a b ≡ t → eqb (bitXor a b) 0 ≡ t
 differ-by a b true e = rw (eqb-true a b e, xor-self b)

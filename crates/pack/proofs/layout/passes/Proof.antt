@@ -1,12 +1,15 @@
 -- A u over 496 fails; otherwise no part of the check may differ.
 -- Assumes nothing.
-use mathlib.Core.Path.{sym}
+use Prim.Native.Nat.{_-_}
+use mathlib.Core.Path.{_≡_, sym, _∙_}
 use borrow.Author.Needs.{needs}
 use borrow.Author.Tests.{lt-leb}
 use denote.Ref.{now}
-use lib.Bits.{bitOr}
+use lib.Dec.{eqb}
+use lib.ListN.{take, drop}
+use Rattle.blocks.specs.Bytes.{bytes, equal}
 use Rattle.pack.specs.Layout.{passes as passesCheck}
-use Rattle.pack.proofs.Parts.{none-differ}
+use Rattle.pack.proofs.Parts.{none-of-four}
 use Rattle.pack.proofs.Check.{passes-parts}
 use Rattle.pack.proofs.layout.passes.Statement.{statement}
 use Rattle.pack.proofs.layout.passes.Tie as tie
@@ -37,20 +40,16 @@ returns-2 c =
     let known = u .before in
     let start = known .before in
     let a = start .args in
-    let d1 = first .difference .result in
-    let d2 = c .before .before .difference2 .result in
-    let d3 = c .before .difference3 .result in
-    let within = rw (u .used .ensures) at (first .before .if1 .left) in
-    simp (
-      none-differ (bitOr (bitOr d1 d2) d3) (c .difference4 .result),
-      none-differ (bitOr d1 d2) d3,
-      none-differ d1 d2,
-      c .difference4 .ensures,
-      c .before .difference3 .ensures,
-      c .before .before .difference2 .ensures,
-      first .difference .ensures,
-      u .used .ensures,
-    ) (sym (passes-parts (a .pack) (a .place) (now (a .block)) (start .pre, λ i. known .shared-slice-known .given i .fits) within))
+    let B = now (a .block) in
+    let v = u .used .result in
+    let filling : eqb (first .difference .result) 0 ≡ equal (take (496 - v) (drop v B)) (bytes (496 - v) 0) = first .difference .ensures in
+    let pack : eqb (c .before .before .difference2 .result) 0 ≡ equal (take 8 (drop 496 B)) (bytes 8 (a .pack)) =
+    c .before .before .difference2 .ensures in
+    let place : eqb (c .before .difference3 .result) 0 ≡ equal (take 4 (drop 504 B)) (bytes 4 (a .place)) = c .before .difference3 .ensures in
+    let zeros : eqb (c .difference4 .result) 0 ≡ equal (take 2 (drop 510 B)) (bytes 2 0) = c .difference4 .ensures in
+    none-of-four (first .difference .result) (c .before .before .difference2 .result) (c .before .difference3 .result) (c .difference4 .result)
+    (rw (u .used .ensures) at filling) pack place zeros
+    ∙ sym (passes-parts (a .pack) (a .place) B (start .pre, λ i. known .shared-slice-known .given i .fits) (rw (u .used .ensures) at (first .before .if1 .left)))
 
 pub passes-spec : {M : Type 1} → statement M
 passes-spec =
