@@ -3,9 +3,10 @@ ghost use mathlib.Core.Path.{_≡_};
 ghost use Rattle.blocks.specs.Bytes.{block, bytes, overwrite};
 ghost use Rattle.blocks.specs.Aes.{Nr, encipher};
 ghost use Rattle.hch.specs.Hch.{enciphered, deciphered};
-ghost use Rattle.hch.specs.Call.{numberOf, answerOf, leftBy};
-ghost use Rattle.pack.specs.Sealing.{seal, numberOf as numberOfSealed, answerOf as answerOfSealing, leftBy as leftBySealing};
-ghost use Rattle.pack.specs.Opening.{opened, numberOf as numberOfOpened, answerOf as answerOfOpening, leftBy as leftByOpening};
+ghost use Rattle.blocks.specs.Call.{leftBy};
+ghost use Rattle.hch.specs.Call.{numberOf, answerOf};
+ghost use Rattle.pack.specs.Sealing.{seal, numberOf as numberOfSealing, answerOf as answerOfSealing};
+ghost use Rattle.pack.specs.Opening.{decipheredBlock, numberOf as numberOfOpening, answerOf as answerOfOpening};
 use blocks::aes::ExpandedKey;
 use blocks::block::Block;
 
@@ -22,7 +23,7 @@ pub extern "C" fn bench_aes_encipher(words: &[u32; 44], data: &mut [u8])
 #[no_mangle]
 pub extern "C" fn bench_hch_encipher(key: &[u8], tweak: &[u8], data: &mut [u8]) -> u32
     ensures { λ r. ⌜ r ≡ numberOf (answerOf (now (key .entry)) (now (tweak .entry)) (now («data» .entry))) ⌝ }
-    ensures { λ _. ⌜ now («data» .exit) ≡ leftBy (answerOf (now (key .entry)) (now (tweak .entry)) (now («data» .entry))) (enciphered (now (key .entry)) (now (tweak .entry)) (now («data» .entry))) (now («data» .entry)) ⌝ }
+    ensures { λ r. ⌜ now («data» .exit) ≡ leftBy r (enciphered (now (key .entry)) (now (tweak .entry)) (now («data» .entry))) (now («data» .entry)) ⌝ }
 {
     hch::encipher(key, tweak, data).number()
 }
@@ -31,7 +32,7 @@ pub extern "C" fn bench_hch_encipher(key: &[u8], tweak: &[u8], data: &mut [u8]) 
 #[no_mangle]
 pub extern "C" fn bench_hch_decipher(key: &[u8], tweak: &[u8], data: &mut [u8]) -> u32
     ensures { λ r. ⌜ r ≡ numberOf (answerOf (now (key .entry)) (now (tweak .entry)) (now («data» .entry))) ⌝ }
-    ensures { λ _. ⌜ now («data» .exit) ≡ leftBy (answerOf (now (key .entry)) (now (tweak .entry)) (now («data» .entry))) (deciphered (now (key .entry)) (now (tweak .entry)) (now («data» .entry))) (now («data» .entry)) ⌝ }
+    ensures { λ r. ⌜ now («data» .exit) ≡ leftBy r (deciphered (now (key .entry)) (now (tweak .entry)) (now («data» .entry))) (now («data» .entry)) ⌝ }
 {
     hch::decipher(key, tweak, data).number()
 }
@@ -45,8 +46,8 @@ pub extern "C" fn bench_seal(
     place: u32,
     block: &mut [u8],
 ) -> u32
-    ensures { λ r. ⌜ r ≡ numberOfSealed (answerOfSealing (now (key .entry)) (now (payload .entry)) place (now (block .entry))) ⌝ }
-    ensures { λ _. ⌜ now (block .exit) ≡ leftBySealing (answerOfSealing (now (key .entry)) (now (payload .entry)) place (now (block .entry))) (seal (enciphered (now (key .entry))) (now (payload .entry)) pack place) (now (block .entry)) ⌝ }
+    ensures { λ r. ⌜ r ≡ numberOfSealing (answerOfSealing (now (key .entry)) (now (payload .entry)) place (now (block .entry))) ⌝ }
+    ensures { λ r. ⌜ now (block .exit) ≡ leftBy r (seal enciphered (now (key .entry)) (now (payload .entry)) pack place) (now (block .entry)) ⌝ }
 {
     pack::seal(key, payload, pack, place, block).number()
 }
@@ -54,8 +55,8 @@ pub extern "C" fn bench_seal(
 // Opens a block, and answers 01's number, 0 where it was done.
 #[no_mangle]
 pub extern "C" fn bench_open(key: &[u8], pack: u64, place: u32, block: &mut [u8]) -> u32
-    ensures { λ r. ⌜ r ≡ numberOfOpened (answerOfOpening (deciphered (now (key .entry))) (now (key .entry)) pack place (now (block .entry))) ⌝ }
-    ensures { λ _. ⌜ now (block .exit) ≡ leftByOpening (answerOfOpening (deciphered (now (key .entry))) (now (key .entry)) pack place (now (block .entry))) (opened (deciphered (now (key .entry))) pack place (now (block .entry))) (now (block .entry)) ⌝ }
+    ensures { λ r. ⌜ r ≡ numberOfOpening (answerOfOpening deciphered (now (key .entry)) pack place (now (block .entry))) ⌝ }
+    ensures { λ r. ⌜ now (block .exit) ≡ leftBy r (decipheredBlock deciphered (now (key .entry)) pack place (now (block .entry))) (now (block .entry)) ⌝ }
 {
     pack::open(key, pack, place, block).number()
 }

@@ -2,7 +2,7 @@
 -- Assumes nothing.
 use Prim.Native.Nat.{ℕ, zero, suc, _^_, _<_}
 use mathlib.Core.Path.{_≡_, refl, sym, ap, _∙_}
-use mathlib.Core.Bool.{Bool, true, false, _&&_, false≢true}
+use mathlib.Core.Bool.{Bool, true, false, _&&_, false≢true, and-assoc}
 use mathlib.Core.List.{List, [], _∷_, _++_}
 use mathlib.Core.Logic.{⊎-elim}
 use native.Mathlib.Nat.{eq-or-lt-of-le, le-of-suc-le-suc, not-suc-le-zero, mod-eq-of-lt}
@@ -78,16 +78,12 @@ equal-true (a ∷ s) (b ∷ t) e =
     rw (eqb-true a b (parts .0), equal-true s t (parts .1))
 
 -- A string is two in a row where its front is the first and what stands behind it the second.
-grouped : (a b c : Bool) → (a && (b && c)) ≡ (a && b && c)
-grouped true b c = refl
-grouped false b c = refl
-
 pub equal-append : (s t u : List ℕ) → equal s (t ++ u) ≡ (equal (take (length t) s) t && equal (drop (length t) s) u)
 unfolding equal
 equal-append s [] u = refl
 equal-append [] (b ∷ t) u = refl
 equal-append (a ∷ s) (b ∷ t) u =
-    rw (equal-append s t u) (grouped (eqb a b) (equal (take (length t) s) t) (equal (drop (length t) s) u))
+    rw (equal-append s t u) (sym (and-assoc (eqb a b) (equal (take (length t) s) t) (equal (drop (length t) s) u)))
 
 -- A cipher of n bytes sends exactly one string of n bytes to each.
 pub one-preimage : {n : ℕ} {f g : List ℕ → List ℕ} → Cipher n f g → (s : List ℕ) → OfLength n s → OnePreimage n f s (g s)

@@ -7,4 +7,5 @@ pub mod Permutation
 pub mod Aes
 pub mod Block
 pub mod Key
+pub mod Call
 pub mod Theorems

@@ -11,7 +11,8 @@ use lib.ListN.{length}
 use borrow.Author.Tests.{ltb-false, eqb-true, le-ltb, eq-eqb}
 use denote.Enum.Declared.{tagOf}
 use types.Run.{OneOf}
-use Rattle.hch.specs.Call.{numberOf, answerOf, leftBy}
+use Rattle.blocks.specs.Call.{leftBy}
+use Rattle.hch.specs.Call.{numberOf, answerOf}
 use Rattle.hch.specs.declared.Answer.{Answer}
 use Rattle.hch.specs.declared.Answer.the-variants.{Done, KeyLength, TweakLength, TooShort, TooLong}
 use Rattle.hch.proofs.Answer.{the-type}
@@ -42,10 +43,10 @@ admitted key tweak message e =
     }
 
 -- And such a call does its work: what a caller may cite who knows the lengths.
-pub worked : (key tweak message work left : List ℕ) (answer : Answer) → answer ≡ answerOf key tweak message → left ≡ leftBy answer work message
+pub work-done : (key tweak message work left : List ℕ) (answer : Answer) → answer ≡ answerOf key tweak message → left ≡ leftBy (numberOf answer) work message
     → length key ≡ 16 → length tweak ≡ 16 → 16 ≤ length message → length message ≤ 4096 → left ≡ work
 unfolding answerOf
-worked key tweak message work left answer e l k t low high =
+work-done key tweak message work left answer e l k t low high =
     let done : answer ≡ Done =
     rw (e, eq-eqb (length key) 16 k, eq-eqb (length tweak) 16 t, le-ltb (length message) 16 low, le-ltb 4096 (length message) high) in
     rw done at l
@@ -60,7 +61,7 @@ other n (inr (inr (inr e))) z = omega arith
 pub not-done : (a : Answer) → OneOf (1 ∷ 2 ∷ 3 ∷ 4 ∷ []) (tagOf the-type a) → a ≡ Done → ⊥
 not-done a h e = other (tagOf the-type a) h (ap (tagOf the-type) e)
 
-pub refused : (a : Answer) (work message : List ℕ) → OneOf (1 ∷ 2 ∷ 3 ∷ 4 ∷ []) (tagOf the-type a) → message ≡ leftBy a work message
+pub refused : (a : Answer) (work message : List ℕ) → OneOf (1 ∷ 2 ∷ 3 ∷ 4 ∷ []) (tagOf the-type a) → message ≡ leftBy (numberOf a) work message
 refused Done work message h = absurd (other 0 h refl)
 refused KeyLength work message h = refl
 refused TweakLength work message h = refl

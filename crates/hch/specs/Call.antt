@@ -1,4 +1,4 @@
--- The two calls: what they answer, and what they leave in the lent bytes.
+-- The two calls: what they answer.
 use Prim.Native.Nat.{ℕ}
 use mathlib.Core.Path.{_≡_}
 use mathlib.Core.Bool.{cond, not}
@@ -25,14 +25,6 @@ answerOf key tweak message =
     (cond (not (eqb (length tweak) 16)) TweakLength
     (cond (ltb (length message) 16) TooShort
     (cond (ltb 4096 (length message)) TooLong Done)))
-
--- What a call leaves in the lent bytes: its work where it was done, and what they held where it was refused.
-abbrev pub leftBy : Answer → (work message : List ℕ) → List ℕ
-leftBy Done work message = work
-leftBy KeyLength work message = message
-leftBy TweakLength work message = message
-leftBy TooShort work message = message
-leftBy TooLong work message = message
 
 -- Demand 3: where the call was done, exactly one message of the length of C enciphers to C, and it is P.
 abbrev pub OnePlaintext : Answer → (key tweak C P : List ℕ) → Type 0

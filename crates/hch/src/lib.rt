@@ -7,8 +7,9 @@ ghost use Rattle.blocks.specs.Bytes.{bytes, block, blocks, overwrite};
 ghost use Rattle.blocks.specs.Field.{xTimes, keyedSum};
 ghost use Rattle.blocks.specs.Block.{value};
 ghost use Rattle.blocks.specs.Key.{under};
+ghost use Rattle.blocks.specs.Call.{leftBy};
 ghost use Rattle.hch.specs.Hch.{bin, H as polynomialHash, ctrBytes, fromI, encipher, decipher, enciphered, deciphered};
-ghost use Rattle.hch.specs.Call.{numberOf, answerOf, leftBy, OnePlaintext};
+ghost use Rattle.hch.specs.Call.{numberOf, answerOf, OnePlaintext};
 use blocks::aes::ExpandedKey;
 use blocks::block::Block;
 use blocks::field;
@@ -140,7 +141,7 @@ fn decipher_message(key: ExpandedKey, tweak: Block, data: &mut [u8])
 // Enciphers the data in place, or refuses and leaves it as it is.
 pub fn encipher(key: &[u8], tweak: &[u8], data: &mut [u8]) -> Answer
     ensures { λ r. ⌜ r ≡ answerOf (now (key .entry)) (now (tweak .entry)) (now («data» .entry)) ⌝ }
-    ensures { λ r. ⌜ now («data» .exit) ≡ leftBy r (enciphered (now (key .entry)) (now (tweak .entry)) (now («data» .entry))) (now («data» .entry)) ⌝ }
+    ensures { λ r. ⌜ now («data» .exit) ≡ leftBy (numberOf r) (enciphered (now (key .entry)) (now (tweak .entry)) (now («data» .entry))) (now («data» .entry)) ⌝ }
 {
     let answer = judge(key, tweak, data);
     if let Answer::Done = answer {
@@ -152,7 +153,7 @@ pub fn encipher(key: &[u8], tweak: &[u8], data: &mut [u8]) -> Answer
 // Deciphers the data in place, or refuses and leaves it as it is.
 pub fn decipher(key: &[u8], tweak: &[u8], data: &mut [u8]) -> Answer
     ensures { λ r. ⌜ r ≡ answerOf (now (key .entry)) (now (tweak .entry)) (now («data» .entry)) ⌝ }
-    ensures { λ r. ⌜ now («data» .exit) ≡ leftBy r (deciphered (now (key .entry)) (now (tweak .entry)) (now («data» .entry))) (now («data» .entry)) ⌝ }
+    ensures { λ r. ⌜ now («data» .exit) ≡ leftBy (numberOf r) (deciphered (now (key .entry)) (now (tweak .entry)) (now («data» .entry))) (now («data» .entry)) ⌝ }
     ensures { λ r. ⌜ OnePlaintext r (now (key .entry)) (now (tweak .entry)) (now («data» .entry)) (now («data» .exit)) ⌝ }
 {
     let answer = judge(key, tweak, data);

@@ -2,7 +2,7 @@
 -- Assumes nothing.
 use Prim.Native.Nat.{ℕ, zero, suc, _+_, _-_, _*_, _^_, _≤_}
 use mathlib.Core.Path.{_≡_, refl, sym, _∙_}
-use mathlib.Core.Bool.{Bool, true, false, _&&_}
+use mathlib.Core.Bool.{true, _&&_, and-assoc}
 use mathlib.Core.List.{List, _++_, append-assoc}
 use native.Mathlib.Nat.{zero-div, zero-add, mod-eq-of-lt}
 use native.Mathlib.Omega.{arith}
@@ -40,13 +40,12 @@ length-plain payload pack place h = rw (length-append, length-check (length payl
 overwrite-behind : (i j : ℕ) (t u s : List ℕ) → i + length t ≡ j → overwrite i (t ++ u) s ≡ overwrite j u (overwrite i t s)
 overwrite-behind i j t u s e = rw (overwrite-append i t u s, e)
 
--- The parts, written each at its place into any 512 bytes.
-pub laid-out : (payload s : List ℕ) (pack place : ℕ) → length payload ≤ 496 → length s ≡ 512 → let u = length payload in
-    overwrite 510 (bytes 2 0) (overwrite 508 (bytes 2 u) (overwrite 504 (bytes 4 place) (overwrite 496 (bytes 8 pack)
-    (overwrite u (bytes (496 - u) 0) (overwrite 0 payload s))))) ≡ plainBlock payload pack place
-unfolding plainBlock check
-laid-out payload s pack place h l =
-    let u = length payload in
+-- The parts of the check, written each at its place.
+pub check-written : (u pack place : ℕ) (s : List ℕ) → u ≤ 496
+    → overwrite 510 (bytes 2 0) (overwrite 508 (bytes 2 u) (overwrite 504 (bytes 4 place) (overwrite 496 (bytes 8 pack)
+    (overwrite u (bytes (496 - u) 0) s)))) ≡ overwrite u (check u pack place) s
+unfolding check
+check-written u pack place s h =
     let filling : List ℕ = replicate (496 - u) 0 in
     let at496 : u + length filling ≡ 496 = rw length-replicate (omega arith) in
     let at504 : u + length (filling ++ bytes 8 pack) ≡ 504 = rw (length-append, length-replicate, length-bytes) (omega arith) in
@@ -54,16 +53,22 @@ laid-out payload s pack place h l =
     simp (length-append, length-replicate, length-bytes) (omega arith) in
     let at510 : u + length (filling ++ bytes 8 pack ++ bytes 4 place ++ bytes 2 u) ≡ 510 =
     simp (length-append, length-replicate, length-bytes) (omega arith) in
-    sym (sym (overwrite-whole (plainBlock payload pack place) s (length-plain payload pack place h ∙ sym l))
-    ∙ rw (
+    rw (
       zeros (496 - u),
       zeros 2,
-      overwrite-behind 0 u payload (check u pack place) s (zero-add u),
-      overwrite-behind u 510 (filling ++ bytes 8 pack ++ bytes 4 place ++ bytes 2 u) (replicate 2 0) (overwrite 0 payload s) at510,
-      overwrite-behind u 508 (filling ++ bytes 8 pack ++ bytes 4 place) (bytes 2 u) (overwrite 0 payload s) at508,
-      overwrite-behind u 504 (filling ++ bytes 8 pack) (bytes 4 place) (overwrite 0 payload s) at504,
-      overwrite-behind u 496 filling (bytes 8 pack) (overwrite 0 payload s) at496,
-    ))
+      overwrite-behind u 510 (filling ++ bytes 8 pack ++ bytes 4 place ++ bytes 2 u) (replicate 2 0) s at510,
+      overwrite-behind u 508 (filling ++ bytes 8 pack ++ bytes 4 place) (bytes 2 u) s at508,
+      overwrite-behind u 504 (filling ++ bytes 8 pack) (bytes 4 place) s at504,
+      overwrite-behind u 496 filling (bytes 8 pack) s at496,
+    )
+
+-- The payload and its check, written over any 512 bytes.
+pub plain-written : (payload s : List ℕ) (pack place : ℕ) → length payload ≤ 496 → length s ≡ 512
+    → overwrite (length payload) (check (length payload) pack place) (overwrite 0 payload s) ≡ plainBlock payload pack place
+unfolding plainBlock
+plain-written payload s pack place h l =
+    sym (overwrite-behind 0 (length payload) payload (check (length payload) pack place) s (zero-add (length payload)))
+    ∙ overwrite-whole (payload ++ check (length payload) pack place) s (length-plain payload pack place h ∙ sym l)
 
 -- A string is a check where each part of it is at its place.
 check-parts : (u pack place : ℕ) (B : List ℕ) → length B ≡ 512 → u ≤ 496
@@ -107,12 +112,6 @@ own-part B h =
     rw two at (bytes-number (take 2 (drop 508 B)) (below-take 2 (drop 508 B) (below-drop 508 B (h .1)))) in
     rw back (equal-refl (take 2 (drop 508 B)))
 
-grouped : (a b c d : Bool) → (a && (b && (c && (true && d)))) ≡ (a && b && c && d)
-grouped true true true d = refl
-grouped true true false d = refl
-grouped true false c d = refl
-grouped false b c d = refl
-
 -- The check is passed where each part of it is what it should be; u is read from its own part.
 pub passes-parts : (pack place : ℕ) (B : List ℕ) → OfLength 512 B → used B ≤ 496 → let u = used B in
     passes pack place B
@@ -120,17 +119,20 @@ pub passes-parts : (pack place : ℕ) (B : List ℕ) → OfLength 512 B → used
     && equal (take 4 (drop 504 B)) (bytes 4 place) && equal (take 2 (drop 510 B)) (bytes 2 0))
 unfolding passes
 passes-parts pack place B h l =
-    rw (le-leb (used B) 496 l, check-parts (used B) pack place B (h .0) l, own-part B h)
-    (grouped (equal (take (496 - used B) (drop (used B) B)) (bytes (496 - used B) 0)) (equal (take 8 (drop 496 B)) (bytes 8 pack))
-    (equal (take 4 (drop 504 B)) (bytes 4 place)) (equal (take 2 (drop 510 B)) (bytes 2 0)))
+    let u = used B in
+    let filling = equal (take (496 - u) (drop u B)) (bytes (496 - u) 0) in
+    let number = equal (take 8 (drop 496 B)) (bytes 8 pack) in
+    let location = equal (take 4 (drop 504 B)) (bytes 4 place) in
+    let last = equal (take 2 (drop 510 B)) (bytes 2 0) in
+    rw (le-leb u 496 l, check-parts u pack place B (h .0) l, own-part B h, and-assoc (filling && number) location last, and-assoc filling number (location && last))
 
 -- The tweak and the plain block are strings of 16 and of 512 bytes.
 zeros-below : (n : ℕ) → Bytes (replicate n 0)
 zeros-below n = rw (sym (zeros n)) (bytes-below n 0)
 
-pub tweak-length : (pack place : ℕ) → OfLength 16 (tweak pack place)
+pub tweak-of-length : (pack place : ℕ) → OfLength 16 (tweak pack place)
 unfolding tweak
-tweak-length pack place = (
+tweak-of-length pack place = (
   simp (length-append, length-replicate, length-bytes),
   below-append (bytes 8 pack ++ replicate 4 0) (bytes 4 place)
       (below-append (bytes 8 pack) (replicate 4 0) (bytes-below 8 pack) (zeros-below 4)) (bytes-below 4 place),
@@ -145,9 +147,9 @@ check-below u pack place =
     (below-append (filling ++ bytes 8 pack) (bytes 4 place)
     (below-append filling (bytes 8 pack) (zeros-below (496 - u)) (bytes-below 8 pack)) (bytes-below 4 place)) (bytes-below 2 u)) (zeros-below 2)
 
-pub plain-length : (payload : List ℕ) (pack place : ℕ) → Bytes payload → length payload ≤ 496 → OfLength 512 (plainBlock payload pack place)
+pub plain-of-length : (payload : List ℕ) (pack place : ℕ) → Bytes payload → length payload ≤ 496 → OfLength 512 (plainBlock payload pack place)
 unfolding plainBlock
-plain-length payload pack place b h =
+plain-of-length payload pack place b h =
     (length-plain payload pack place h, below-append payload (check (length payload) pack place) b (check-below (length payload) pack place))
 
 -- The plain block of a payload holds its length, and passes its check.

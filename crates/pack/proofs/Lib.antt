@@ -1,4 +1,4 @@
-pub mod Parts
+pub mod Steps
 pub mod Check
 pub mod OneBlock
 pub mod Theorems

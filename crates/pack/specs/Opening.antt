@@ -1,4 +1,4 @@
--- Opening: what it answers, what it leaves in the lent block, and what that means.
+-- Opening: what it answers, and what that means.
 use Prim.Native.Nat.{ℕ, _≤_}
 use mathlib.Core.Path.{_≡_}
 use mathlib.Core.Bool.{Bool, cond, not, _&&_}
@@ -7,6 +7,7 @@ use lib.Dec.{ltb, eqb}
 use lib.ListN.{length, take}
 use Rattle.blocks.specs.Bytes.{Bytes, equal}
 use Rattle.blocks.specs.One.{OneString}
+use Rattle.blocks.specs.Call.{leftBy}
 use Rattle.pack.specs.Layout.{tweak, used, passes}
 use Rattle.pack.specs.Sealing.{seal}
 use Rattle.pack.specs.declared.opening.Opened.{Opened}
@@ -20,7 +21,7 @@ numberOf BlockLength = 7
 numberOf PlaceTooHigh = 6
 numberOf CheckFailed = 8
 
--- What a call returns beside: u where the block was opened; a refusal returns its number alone.
+-- What a call returns beside its number: u where the block was opened; a refusal returns its number alone.
 abbrev pub valuesOf : Opened → List ℕ
 valuesOf (Done u) = u ∷ []
 valuesOf KeyLength = []
@@ -28,24 +29,16 @@ valuesOf BlockLength = []
 valuesOf PlaceTooHigh = []
 valuesOf CheckFailed = []
 
--- What a call leaves in the lent block: the plain block where it was opened, and what it held where it was not.
-abbrev pub leftBy : Opened → (plain block : List ℕ) → List ℕ
-leftBy (Done u) plain block = plain
-leftBy KeyLength plain block = block
-leftBy BlockLength plain block = block
-leftBy PlaceTooHigh plain block = block
-leftBy CheckFailed plain block = block
-
--- D is deciphering under the key, by the tweak.
-module _ (D : List ℕ → List ℕ → List ℕ) where
-  -- What deciphering gives: the plain block, where it passes its check.
-  unfoldable pub opened : (pack place : ℕ) (C : List ℕ) → List ℕ
-  opened pack place C = D (tweak pack place) C
+-- D deciphers under a key and a tweak.
+module _ (D : List ℕ → List ℕ → List ℕ → List ℕ) where
+  -- The lent block C deciphered: a plain block, where it passes its check.
+  unfoldable pub decipheredBlock : (key : List ℕ) (pack place : ℕ) (C : List ℕ) → List ℕ
+  decipheredBlock key pack place C = D key (tweak pack place) C
 
   -- 01, "Opening looks at 1, 7, 6, 8".
   unfoldable pub answerOf : (key : List ℕ) (pack place : ℕ) (C : List ℕ) → Opened
   answerOf key pack place C =
-      let B = opened pack place C in
+      let B = decipheredBlock key pack place C in
       cond (not (eqb (length key) 16)) KeyLength
       (cond (not (eqb (length C) 512)) BlockLength
       (cond (ltb 65535 place) PlaceTooHigh
@@ -56,22 +49,24 @@ module _ (D : List ℕ → List ℕ → List ℕ) where
   unfoldable pub opensTo : (key payload : List ℕ) (pack place : ℕ) (C : List ℕ) → Bool
   opensTo key payload pack place C =
       let answer = answerOf key pack place C in
-      let left = leftBy answer (opened pack place C) C in
-      equal (valuesOf answer) (length payload ∷ []) && equal (take (length payload) left) payload
+      let left = leftBy (numberOf answer) (decipheredBlock key pack place C) C in
+      eqb (numberOf answer) 0 && equal (valuesOf answer) (length payload ∷ []) && equal (take (length payload) left) payload
 
   -- Demand 3: exactly one 512-byte block opens to the payload, pack and place, and it is C; counted over all of them, there is 1.
   abbrev pub OneBlock : (key payload : List ℕ) (pack place : ℕ) (C : List ℕ) → Type 0
   OneBlock key payload pack place C = OneString 512 (opensTo key payload pack place) C
 
--- 01, "no payload of 0 to 496 bytes seals to these 512 bytes".
-abbrev pub NoPayload : (E : List ℕ → List ℕ → List ℕ) (pack place : ℕ) (C : List ℕ) → Type 0
-NoPayload E pack place C = (payload : List ℕ) → Bytes payload → length payload ≤ 496 → seal E payload pack place ≡ C → ⊥
+module _ (E : List ℕ → List ℕ → List ℕ → List ℕ) where
+  -- 01, "no payload of 0 to 496 bytes seals to these 512 bytes".
+  abbrev pub NoPayload : (key : List ℕ) (pack place : ℕ) (C : List ℕ) → Type 0
+  NoPayload key pack place C = (payload : List ℕ) → Bytes payload → length payload ≤ 496 → seal E key payload pack place ≡ C → ⊥
 
--- What the answer to an opening of C means, which leaves B.
-pub record Meaning (E D : List ℕ → List ℕ → List ℕ) (answer : Opened) (key : List ℕ) (pack place : ℕ) (C B : List ℕ) : Type 0 where
-  -- The payload that is left is the one that seals to C, and no other block opens to it.
-  pub sealed : (u : ℕ) → answer ≡ Done u → seal E (take u B) pack place ≡ C
-  pub one-block : (u : ℕ) → answer ≡ Done u → OneBlock D key (take u B) pack place C
-  -- 01, "Where 1, 7 and 6 do not apply, number 8 is returned exactly if no payload of 0 to 496 bytes seals to these 512 bytes".
-  pub failed : answer ≡ CheckFailed → NoPayload E pack place C
-  pub only-failed : length key ≡ 16 → length C ≡ 512 → place ≤ 65535 → NoPayload E pack place C → answer ≡ CheckFailed
+-- What the answer means when C was to be opened and B is left.
+pub record Meaning (E D : List ℕ → List ℕ → List ℕ → List ℕ) (answer : Opened) (key : List ℕ) (pack place : ℕ) (C B : List ℕ) : Type 0 where
+  -- Where it returns u, the first u bytes that are left seal to C, and no other block opens to them.
+  pub sealed : (u : ℕ) → valuesOf answer ≡ u ∷ [] → seal E key (take u B) pack place ≡ C
+  pub one-block : (u : ℕ) → valuesOf answer ≡ u ∷ [] → OneBlock D key (take u B) pack place C
+  -- 01, "Where 1, 7 and 6 do not apply, number 8 is returned exactly if no payload of 0 to 496 bytes seals to these 512 bytes under this key,
+  -- pack and place".
+  pub eight : length key ≡ 16 → length C ≡ 512 → place ≤ 65535
+      → (numberOf answer ≡ 8 → NoPayload E key pack place C) × (NoPayload E key pack place C → numberOf answer ≡ 8)

@@ -4,7 +4,7 @@ ghost use mathlib.Core.Path.{_≡_};
 ghost use lib.Dec.{eqb};
 ghost use lib.ListN.{length, take, drop};
 ghost use Rattle.blocks.specs.Bytes.{bytes, equal, overwrite};
-ghost use Rattle.pack.specs.Layout.{plainBlock, tweak as tweakOf, used as usedOf, passes as passesCheck};
+ghost use Rattle.pack.specs.Layout.{check, tweak as tweakOf, used as usedOf, passes as passesCheck};
 
 // Writes a number in n bytes from place `at` on, its lowest byte last.
 fn put(out: &mut [u8], at: usize, n: usize, value: u64)
@@ -37,7 +37,7 @@ fn difference(s: &[u8], at: usize, n: usize, value: u64) -> u8
 }
 
 // Writes bytes over the front of others.
-fn copy(from: &[u8], to: &mut [u8])
+pub(crate) fn copy(from: &[u8], to: &mut [u8])
     requires { ⌜ length (now from) ≤ length (now to) ⌝ }
     ensures { λ _. ⌜ now (to .exit) ≡ overwrite 0 (now (from .entry)) (now (to .entry)) ⌝ }
 {
@@ -48,13 +48,11 @@ fn copy(from: &[u8], to: &mut [u8])
     }
 }
 
-// Lays out the plain block.
-pub(crate) fn lay_out(payload: &[u8], pack: u64, place: u32, block: &mut [u8])
-    requires { ⌜ (length (now payload) ≤ 496) × (length (now block) ≡ 512) ⌝ }
-    ensures { λ _. ⌜ now (block .exit) ≡ plainBlock (now (payload .entry)) pack place ⌝ }
+// Writes the check behind a payload of u bytes.
+pub(crate) fn put_check(u: usize, pack: u64, place: u32, block: &mut [u8])
+    requires { ⌜ (u ≤ 496) × (length (now block) ≡ 512) ⌝ }
+    ensures { λ _. ⌜ now (block .exit) ≡ overwrite u (check u pack place) (now (block .entry)) ⌝ }
 {
-    let u = payload.len();
-    copy(payload, block);
     put(block, u, 496 - u, 0);
     put(block, 496, 8, pack);
     put(block, 504, 4, place as u64);
@@ -89,9 +87,9 @@ pub(crate) fn passes(pack: u64, place: u32, block: &[u8]) -> bool
     if u > 496 {
         return false;
     }
-    let filling = difference(block, u, 496 - u, 0);
-    let number = difference(block, 496, 8, pack);
-    let place = difference(block, 504, 4, place as u64);
-    let zeros = difference(block, 510, 2, 0);
-    filling | number | place | zeros == 0
+    let filling_differs = difference(block, u, 496 - u, 0);
+    let pack_differs = difference(block, 496, 8, pack);
+    let place_differs = difference(block, 504, 4, place as u64);
+    let zeros_differ = difference(block, 510, 2, 0);
+    (filling_differs | pack_differs | place_differs | zeros_differ) == 0
 }

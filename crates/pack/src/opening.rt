@@ -1,7 +1,8 @@
 // Opening a sealed block as that of a pack and a place.
 ghost use mathlib.Core.Path.{_≡_};
+ghost use Rattle.blocks.specs.Call.{leftBy};
 ghost use Rattle.hch.specs.Hch.{enciphered, deciphered};
-ghost use Rattle.pack.specs.Opening.{opened, numberOf, answerOf, leftBy, Meaning};
+ghost use Rattle.pack.specs.Opening.{numberOf, decipheredBlock, answerOf, Meaning};
 use crate::cipher;
 use crate::layout;
 
@@ -32,9 +33,9 @@ impl Opened {
 // Opens the lent block as that of a pack and a place, or refuses and leaves it as it is. What fails its check is enciphered again, which gives
 // the lent bytes back.
 pub fn open(key: &[u8], pack: u64, place: u32, block: &mut [u8]) -> Opened
-    ensures { λ r. ⌜ r ≡ answerOf (deciphered (now (key .entry))) (now (key .entry)) pack place (now (block .entry)) ⌝ }
-    ensures { λ r. ⌜ now (block .exit) ≡ leftBy r (opened (deciphered (now (key .entry))) pack place (now (block .entry))) (now (block .entry)) ⌝ }
-    ensures { λ r. ⌜ Meaning (enciphered (now (key .entry))) (deciphered (now (key .entry))) r (now (key .entry)) pack place (now (block .entry)) (now (block .exit)) ⌝ }
+    ensures { λ r. ⌜ r ≡ answerOf deciphered (now (key .entry)) pack place (now (block .entry)) ⌝ }
+    ensures { λ r. ⌜ now (block .exit) ≡ leftBy (numberOf r) (decipheredBlock deciphered (now (key .entry)) pack place (now (block .entry))) (now (block .entry)) ⌝ }
+    ensures { λ r. ⌜ Meaning enciphered deciphered r (now (key .entry)) pack place (now (block .entry)) (now (block .exit)) ⌝ }
 {
     if key.len() != 16 {
         return Opened::KeyLength;

@@ -1,7 +1,9 @@
 // Sealing a payload for a pack and a place.
 ghost use mathlib.Core.Path.{_≡_};
-ghost use Rattle.hch.specs.Hch.{enciphered};
-ghost use Rattle.pack.specs.Sealing.{seal as sealedBy, numberOf, answerOf, leftBy};
+ghost use Rattle.blocks.specs.Call.{leftBy};
+ghost use Rattle.hch.specs.Hch.{enciphered, deciphered};
+ghost use Rattle.pack.specs.Sealing.{seal as sealedBy, numberOf, answerOf};
+ghost use Rattle.pack.specs.Opening.{OneBlock};
 use crate::cipher;
 use crate::layout;
 
@@ -32,7 +34,8 @@ impl Sealed {
 // Seals a payload into the lent block for a pack and a place, or refuses and leaves the block as it is.
 pub fn seal(key: &[u8], payload: &[u8], pack: u64, place: u32, block: &mut [u8]) -> Sealed
     ensures { λ r. ⌜ r ≡ answerOf (now (key .entry)) (now (payload .entry)) place (now (block .entry)) ⌝ }
-    ensures { λ r. ⌜ now (block .exit) ≡ leftBy r (sealedBy (enciphered (now (key .entry))) (now (payload .entry)) pack place) (now (block .entry)) ⌝ }
+    ensures { λ r. ⌜ now (block .exit) ≡ leftBy (numberOf r) (sealedBy enciphered (now (key .entry)) (now (payload .entry)) pack place) (now (block .entry)) ⌝ }
+    ensures { λ r. ⌜ (numberOf r ≡ 0 → OneBlock deciphered (now (key .entry)) (now (payload .entry)) pack place (now (block .exit))) ⌝ }
 {
     if key.len() != 16 {
         return Sealed::KeyLength;
@@ -46,7 +49,8 @@ pub fn seal(key: &[u8], payload: &[u8], pack: u64, place: u32, block: &mut [u8])
     if place > 65535 {
         return Sealed::PlaceTooHigh;
     }
-    layout::lay_out(payload, pack, place, block);
+    layout::copy(payload, block);
+    layout::put_check(payload.len(), pack, place, block);
     cipher::encipher(key, pack, place, block);
     Sealed::Done
 }

@@ -16,7 +16,7 @@ same-length c = search needs
 returns : tie.Need-returns
 returns c =
     let e = c .before .before .before in
-    (rw (c .number .ensures, e .decipher .ensures .0), rw (e .decipher .ensures .0) at (e .decipher .ensures .1 .0))
+    (rw (c .number .ensures, e .decipher .ensures .0), rw (c .number .ensures) (e .decipher .ensures .1 .0))
 
 pub bench-hch-decipher-spec : {M : Type 1} → statement M
 bench-hch-decipher-spec =

@@ -16,7 +16,7 @@ same-length c = search needs
 returns : tie.Need-returns
 returns c =
     let e = c .before .before .before in
-    (rw (c .number .ensures, e .encipher .ensures .0), rw (e .encipher .ensures .0) at (e .encipher .ensures .1))
+    (rw (c .number .ensures, e .encipher .ensures .0), rw (c .number .ensures) (e .encipher .ensures .1))
 
 pub bench-hch-encipher-spec : {M : Type 1} → statement M
 bench-hch-encipher-spec =

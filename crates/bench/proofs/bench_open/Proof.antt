@@ -16,7 +16,7 @@ same-length c = search needs
 returns : tie.Need-returns
 returns c =
     let e = c .before .before .before in
-    (rw (c .number .ensures, e .open .ensures .0), rw (e .open .ensures .0) at (e .open .ensures .1 .0))
+    (rw (c .number .ensures, e .open .ensures .0), rw (c .number .ensures) (e .open .ensures .1 .0))
 
 pub bench-open-spec : {M : Type 1} → statement M
 bench-open-spec = tie.close (tie.spec open-requires number-requires same-length returns)

@@ -16,7 +16,7 @@ same-length c = search needs
 returns : tie.Need-returns
 returns c =
     let e = c .before .before .before in
-    (rw (c .number .ensures, e .seal .ensures .0), rw (e .seal .ensures .0) at (e .seal .ensures .1))
+    (rw (c .number .ensures, e .seal .ensures .0), rw (c .number .ensures) (e .seal .ensures .1 .0))
 
 pub bench-seal-spec : {M : Type 1} → statement M
 bench-seal-spec = tie.close (tie.spec seal-requires number-requires same-length returns)

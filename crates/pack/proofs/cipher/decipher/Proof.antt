@@ -4,9 +4,9 @@ use native.Mathlib.Omega.{arith}
 use borrow.Author.Needs.{needs}
 use denote.Ref.{now}
 use Rattle.hch.specs.Hch.{deciphered}
-use Rattle.hch.proofs.Call.{worked}
+use Rattle.hch.proofs.Call.{work-done}
 use Rattle.pack.specs.Layout.{tweak as tweakOf}
-use Rattle.pack.proofs.Check.{tweak-length}
+use Rattle.pack.proofs.Check.{tweak-of-length}
 use Rattle.pack.proofs.cipher.decipher.Statement.{statement}
 use Rattle.pack.proofs.cipher.decipher.Tie as tie
 
@@ -32,8 +32,8 @@ returns c =
     let T = tweakOf (a .pack) (a .place) in
     let s = now (a .block) in
     let size = start .pre .1 in
-    worked key T s (deciphered key T s) _ (work .decipher .result) (rw (t .tweak .ensures) at (work .decipher .ensures .0)) (rw (t .tweak .ensures) at (work .decipher .ensures .1 .0))
-    (start .pre .0) (tweak-length (a .pack) (a .place) .0) (omega (arith, size)) (omega (arith, size))
+    work-done key T s (deciphered key T s) _ (work .decipher .result) (rw (t .tweak .ensures) at (work .decipher .ensures .0)) (rw (t .tweak .ensures) at (work .decipher .ensures .1 .0))
+    (start .pre .0) (tweak-of-length (a .pack) (a .place) .0) (omega (arith, size)) (omega (arith, size))
 
 pub decipher-spec : {M : Type 1} → statement M
 decipher-spec =

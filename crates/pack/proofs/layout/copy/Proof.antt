@@ -8,7 +8,7 @@ use lib.ListN.{length, drop}
 use lib.Seq.{drop-length}
 use Rattle.blocks.specs.Bytes.{overwrite}
 use Rattle.blocks.proofs.Place.{overwrite-nil, length-overwrite}
-use Rattle.pack.proofs.Parts.{copy-next}
+use Rattle.pack.proofs.Steps.{copy-next}
 use Rattle.pack.proofs.layout.copy.Statement.{statement}
 use Rattle.pack.proofs.layout.copy.Tie as tie
 

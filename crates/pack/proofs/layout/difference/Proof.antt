@@ -8,7 +8,7 @@ use denote.Ref.{now}
 use lib.ListN.{take, drop}
 use Rattle.blocks.specs.Bytes.{bytes, equal}
 use Rattle.blocks.proofs.Place.{rest-next}
-use Rattle.pack.proofs.Parts.{differ-next}
+use Rattle.pack.proofs.Steps.{differ-next}
 use lib.Dec.{eqb}
 use Rattle.pack.proofs.layout.difference.Statement.{statement}
 use Rattle.pack.proofs.layout.difference.Tie as tie

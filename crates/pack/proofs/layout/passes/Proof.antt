@@ -2,14 +2,15 @@
 -- Assumes nothing.
 use Prim.Native.Nat.{_-_}
 use mathlib.Core.Path.{_≡_, sym, _∙_}
+use native.Mathlib.Omega.{arith}
 use borrow.Author.Needs.{needs}
 use borrow.Author.Tests.{lt-leb}
 use denote.Ref.{now}
 use lib.Dec.{eqb}
 use lib.ListN.{take, drop}
 use Rattle.blocks.specs.Bytes.{bytes, equal}
-use Rattle.pack.specs.Layout.{passes as passesCheck}
-use Rattle.pack.proofs.Parts.{none-of-four}
+use Rattle.pack.specs.Layout.{used as usedOf, passes as passesCheck}
+use Rattle.pack.proofs.Steps.{none-of-four}
 use Rattle.pack.proofs.Check.{passes-parts}
 use Rattle.pack.proofs.layout.passes.Statement.{statement}
 use Rattle.pack.proofs.layout.passes.Tie as tie
@@ -19,7 +20,9 @@ used-requires c κs = search needs
 
 returns : tie.Need-returns
 unfolding passesCheck
-returns c = rw (lt-leb _ 496 (rw (c .before .used .ensures) at (c .if1 .taken)))
+returns c =
+    let B = now (c .before .before .before .args .block) in
+    rw (lt-leb (usedOf B) 496 (omega (arith, c .before .used .ensures, c .if1 .taken)))
 
 difference-requires : tie.Need-difference-requires
 difference-requires c κs = search needs

@@ -6,12 +6,12 @@ use borrow.Author.Needs.{needs}
 use borrow.Author.Tests.{lt-ltb, eq-eqb, ne-eqb}
 use denote.Ref.{now}
 use Rattle.blocks.specs.Bytes.{Bytes}
-use Rattle.hch.specs.Hch.{deciphered}
+use Rattle.hch.specs.Hch.{enciphered, deciphered}
 use Rattle.pack.specs.Layout.{passes as passesCheck}
-use Rattle.pack.specs.Opening.{opened, answerOf}
+use Rattle.pack.specs.Opening.{decipheredBlock, answerOf}
 use Rattle.pack.specs.declared.opening.Opened.the-variants.{Done, KeyLength, BlockLength, PlaceTooHigh, CheckFailed}
-use Rattle.pack.proofs.OneBlock.{by-check}
-use Rattle.pack.proofs.Theorems.{given-back, told}
+use Rattle.pack.proofs.OneBlock.{by-check, given-back}
+use Rattle.pack.proofs.Theorems.{hch-tweakable, hch-meaning}
 use Rattle.pack.proofs.opening.open.Statement.{statement}
 use Rattle.pack.proofs.opening.open.Tie as tie
 
@@ -19,25 +19,28 @@ returns : tie.Need-returns
 unfolding answerOf
 returns c =
     let a = c .before .before .before .args in
-    let answered : KeyLength ≡ answerOf (deciphered (now (a .key))) (now (a .key)) (a .pack) (a .place) (now (a .block)) =
+    let C = now (a .block) in
+    let answered : KeyLength ≡ answerOf deciphered (now (a .key)) (a .pack) (a .place) C =
     rw (ne-eqb _ 16 (c .if1 .taken)) in
-    (answered, (refl, told (now (a .key)) (now (a .block)) (now (a .block)) (a .pack) (a .place) KeyLength (λ i. c .before .slice-known .given i .fits) answered refl))
+    (answered, (refl, hch-meaning (now (a .key)) (a .pack) (a .place) C C KeyLength (λ i. c .before .slice-known .given i .fits) answered refl))
 
 returns-2 : tie.Need-returns-2
 unfolding answerOf
 returns-2 c =
     let a = c .before .before .before .before .args in
-    let answered : BlockLength ≡ answerOf (deciphered (now (a .key))) (now (a .key)) (a .pack) (a .place) (now (a .block)) =
+    let C = now (a .block) in
+    let answered : BlockLength ≡ answerOf deciphered (now (a .key)) (a .pack) (a .place) C =
     rw (eq-eqb _ 16 (c .before .if1 .left), ne-eqb _ 512 (c .if2 .taken)) in
-    (answered, (refl, told (now (a .key)) (now (a .block)) (now (a .block)) (a .pack) (a .place) BlockLength (λ i. c .before .before .slice-known .given i .fits) answered refl))
+    (answered, (refl, hch-meaning (now (a .key)) (a .pack) (a .place) C C BlockLength (λ i. c .before .before .slice-known .given i .fits) answered refl))
 
 returns-3 : tie.Need-returns-3
 unfolding answerOf
 returns-3 c =
     let a = c .before .before .before .before .before .args in
-    let answered : PlaceTooHigh ≡ answerOf (deciphered (now (a .key))) (now (a .key)) (a .pack) (a .place) (now (a .block)) =
+    let C = now (a .block) in
+    let answered : PlaceTooHigh ≡ answerOf deciphered (now (a .key)) (a .pack) (a .place) C =
     rw (eq-eqb _ 16 (c .before .before .if1 .left), eq-eqb _ 512 (c .before .if2 .left), lt-ltb 65535 _ (c .if3 .taken)) in
-    (answered, (refl, told (now (a .key)) (now (a .block)) (now (a .block)) (a .pack) (a .place) PlaceTooHigh (λ i. c .before .before .before .slice-known .given i .fits) answered refl))
+    (answered, (refl, hch-meaning (now (a .key)) (a .pack) (a .place) C C PlaceTooHigh (λ i. c .before .before .before .slice-known .given i .fits) answered refl))
 
 decipher-requires : tie.Need-decipher-requires
 decipher-requires c κs = search needs
@@ -52,7 +55,7 @@ same-length : tie.Need-same-length
 same-length c = search needs
 
 returns-4 : tie.Need-returns-4
-unfolding opened
+unfolding decipheredBlock
 returns-4 c =
     let p = c .before .before .before in
     let d = p .before .before .before .before in
@@ -63,13 +66,13 @@ returns-4 c =
     let a = known .before .before .args in
     let key = now (a .key) in
     let C = now (a .block) in
-    let B = opened (deciphered key) (a .pack) (a .place) C in
+    let B = decipheredBlock deciphered key (a .pack) (a .place) C in
     let plain : d .decipher .last .1 .1 .1 .0 ≡ B = d .decipher .ensures in
     let passed : passesCheck (a .pack) (a .place) B ≡ true = rw plain at (sym (p .passes .ensures) ∙ c .before .before .if4 .taken) in
-    let answered : Done (c .used .result) ≡ answerOf (deciphered key) key (a .pack) (a .place) C =
+    let answered : Done (c .used .result) ≡ answerOf deciphered key (a .pack) (a .place) C =
     rw (c .used .ensures, plain)
-    (sym (by-check (deciphered key) key (a .pack) (a .place) C (d1 .if1 .left) (d2 .if2 .left) (d3 .if3 .left) true passed)) in
-    (answered, (plain, told key C _ (a .pack) (a .place) (Done (c .used .result)) (λ i. known .slice-known .given i .fits) answered plain))
+    (sym (by-check deciphered key (a .pack) (a .place) C (d1 .if1 .left) (d2 .if2 .left) (d3 .if3 .left) true passed)) in
+    (answered, (plain, hch-meaning key (a .pack) (a .place) C _ (Done (c .used .result)) (λ i. known .slice-known .given i .fits) answered plain))
 
 encipher-requires : tie.Need-encipher-requires
 encipher-requires c κs = search needs
@@ -78,7 +81,7 @@ same-length-2 : tie.Need-same-length-2
 same-length-2 c = search needs
 
 returns-5 : tie.Need-returns-5
-unfolding opened
+unfolding decipheredBlock
 returns-5 c =
     let again = c .before .before in
     let p = again .before .before .before in
@@ -90,15 +93,15 @@ returns-5 c =
     let a = known .before .before .args in
     let key = now (a .key) in
     let C = now (a .block) in
-    let B = opened (deciphered key) (a .pack) (a .place) C in
+    let B = decipheredBlock deciphered key (a .pack) (a .place) C in
     let plain : d .decipher .last .1 .1 .1 .0 ≡ B = d .decipher .ensures in
     let failed : passesCheck (a .pack) (a .place) B ≡ false = rw plain at (sym (p .passes .ensures) ∙ again .before .before .if4 .left) in
-    let answered : CheckFailed ≡ answerOf (deciphered key) key (a .pack) (a .place) C =
-    sym (by-check (deciphered key) key (a .pack) (a .place) C (d1 .if1 .left) (d2 .if2 .left) (d3 .if3 .left) false failed) in
+    let answered : CheckFailed ≡ answerOf deciphered key (a .pack) (a .place) C =
+    sym (by-check deciphered key (a .pack) (a .place) C (d1 .if1 .left) (d2 .if2 .left) (d3 .if3 .left) false failed) in
     let bytes : Bytes C = λ i. known .slice-known .given i .fits in
     let left : again .encipher .last .1 .1 .1 .0 ≡ C =
-    rw (again .encipher .ensures, plain) (given-back key (a .pack) (a .place) C (d2 .if2 .left, bytes)) in
-    (answered, (left, told key C _ (a .pack) (a .place) CheckFailed bytes answered left))
+    rw (again .encipher .ensures, plain) (given-back enciphered deciphered key (hch-tweakable key) (a .pack) (a .place) C (d2 .if2 .left, bytes)) in
+    (answered, (left, hch-meaning key (a .pack) (a .place) C _ CheckFailed bytes answered left))
 
 pub open-spec : {M : Type 1} → statement M
 open-spec =

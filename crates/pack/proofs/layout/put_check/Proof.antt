@@ -1,13 +1,10 @@
--- The parts of the plain block, written one behind the other.
+-- The parts of the check, written one behind the other.
 -- Assumes nothing.
 use borrow.Author.Needs.{needs}
 use denote.Ref.{now}
-use Rattle.pack.proofs.Check.{laid-out}
-use Rattle.pack.proofs.layout.lay_out.Statement.{statement}
-use Rattle.pack.proofs.layout.lay_out.Tie as tie
-
-copy-requires : tie.Need-copy-requires
-copy-requires c κs = search needs
+use Rattle.pack.proofs.Check.{check-written}
+use Rattle.pack.proofs.layout.put_check.Statement.{statement}
+use Rattle.pack.proofs.layout.put_check.Tie as tie
 
 sub-put : tie.Need-sub-put
 sub-put c = search needs
@@ -37,17 +34,15 @@ returns c =
     let p3 = p4 .before .before .before .before in
     let p2 = p3 .before .before .before .before in
     let p1 = p2 .before .before .before .before in
-    let front = p1 .before .before .before .before in
-    let start = front .before .before .before .before in
+    let start = p1 .before .before .before in
     let a = start .args in
-    rw (p5 .put5 .ensures, p4 .put4 .ensures, p3 .put3 .ensures, p2 .put2 .ensures, p1 .put .ensures, front .copy .ensures)
-    (laid-out (now (a .payload)) (now (a .block)) (a .pack) (a .place) (start .pre .0) (start .pre .1))
+    rw (p5 .put5 .ensures, p4 .put4 .ensures, p3 .put3 .ensures, p2 .put2 .ensures, p1 .put .ensures)
+    (check-written (a .u) (a .pack) (a .place) (now (a .block)) (start .pre .0))
 
-pub lay-out-spec : {M : Type 1} → statement M
-lay-out-spec =
+pub put-check-spec : {M : Type 1} → statement M
+put-check-spec =
     tie.close
     (tie.spec
-    copy-requires
     sub-put
     put-requires
     put-requires-2

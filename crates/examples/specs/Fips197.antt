@@ -1,5 +1,4 @@
--- Worked examples of FIPS 197, as statements on the definitions; proofs/Fips197.antt computes them. They stand in this crate since no edit
--- that must fail has it checked again.
+-- Worked examples of FIPS 197, as statements on the definitions; proofs/Fips197.antt computes them.
 use Prim.Native.Nat.{ℕ}
 use mathlib.Core.Path.{_≡_}
 use mathlib.Core.List.{List}

@@ -1,5 +1,4 @@
--- 01, "Checked by hand": the examples marked P, in one table. proofs/Examples.antt has one value of it. Blocks are numbers, and byte strings are lists. It
--- stands in this crate since no other needs all of the definitions.
+-- 01, "Checked by hand": the examples marked P, in one table. proofs/Examples.antt has one value of it. Blocks are numbers, and byte strings are lists.
 use Prim.Native.Nat.{ℕ, _*_, _^_}
 use mathlib.Core.Path.{_≡_}
 use mathlib.Core.List.{List, [], _∷_, _++_}
