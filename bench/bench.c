@@ -1,5 +1,5 @@
 /* Times the library beside plain C, and sealing and opening beside the library's HCH alone, turn by turn in one run, and prints the ratio of
-   the best times: below 1 the library is faster. */
+   the best times: below 1 the library is faster than plain C; for sealing and opening 1 is HCH itself. */
 #define _POSIX_C_SOURCE 199309L
 #include "aes.h"
 #include "hch.h"
