@@ -152,12 +152,12 @@ fn ring(command: u8, data: &[u8]) -> bool {
     false
 }
 
-// A block under a key, one way or the other.
+// A block under a key, one way or the other. The key is the first block, of which alone it is expanded.
 fn aes(direction: u8, data: &[u8]) -> bool {
     if data.len() != 32 {
         return false;
     }
-    let key = ExpandedKey::new(&data[0..16]);
+    let key = ExpandedKey::new(data);
     let block = Block::read(data, 16);
     if direction == b'e' {
         fields::put_block(key.encipher(block));
