@@ -2,7 +2,7 @@
 -- Assumes nothing.
 use Rattle.blocks.proofs.Examples as field
 use Rattle.hch.proofs.Examples as scheme
-use Rattle.pack.proofs.Examples as layout
+use Rattle.layout.proofs.Examples as layout
 use Rattle.examples.specs.Examples.{Examples}
 
 pub examples : Examples

@@ -9,7 +9,7 @@ use Rattle.blocks.specs.Field.{xTimes, _•_, keyedSum}
 use Rattle.blocks.specs.Permutation.{Block}
 use Rattle.blocks.specs.Aes.{_·_, box}
 use Rattle.hch.specs.Hch.{bin, H}
-use Rattle.pack.specs.Layout.{plainBlock, tweak}
+use Rattle.layout.specs.Layout.{plainBlock, tweak}
 
 pub record Examples : Type 0 where
   -- x times 1 is 2.

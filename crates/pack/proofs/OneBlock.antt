@@ -14,12 +14,12 @@ use Rattle.blocks.specs.Call.{leftBy}
 use Rattle.blocks.specs.Permutation.{Cipher, TweakableCipher}
 use Rattle.blocks.proofs.Bytes.{below-take}
 use Rattle.blocks.proofs.One.{both, equal-refl, equal-true, one-string}
-use Rattle.pack.specs.Layout.{plainBlock, tweak, used, passes}
+use Rattle.layout.specs.Layout.{plainBlock, tweak, used, passes}
 use Rattle.pack.specs.Sealing.{seal, WithinLimits}
 use Rattle.pack.specs.Opening.{numberOf, valuesOf, decipheredBlock, answerOf, opensTo, OneBlock, NoPayload, Meaning}
 use Rattle.pack.specs.declared.opening.Opened.{Opened}
 use Rattle.pack.specs.declared.opening.Opened.the-variants.{Done, KeyLength, BlockLength, PlaceTooHigh, CheckFailed}
-use Rattle.pack.proofs.Check.{tweak-of-length, plain-of-length, used-plain, take-plain, passes-plain, passes-only}
+use Rattle.layout.proofs.Check.{tweak-of-length, plain-of-length, used-plain, take-plain, passes-plain, passes-only}
 
 -- ---- what an answer tells of the tests
 

@@ -13,7 +13,7 @@ use Rattle.hch.proofs.Theorems as hch
 use Rattle.pack.specs.Opening.{numberOf, decipheredBlock, answerOf, Meaning}
 use Rattle.pack.specs.declared.opening.Opened.{Opened}
 use Rattle.pack.specs.Theorems.{Pack, Theorems}
-use Rattle.pack.proofs.Check.{take-plain}
+use Rattle.layout.proofs.Check.{take-plain}
 use Rattle.pack.proofs.OneBlock.{deciphered-sealed, answer-sealed, only-sealed, one-block, eight, answer-means}
 
 any-cipher : (E D : List ℕ → List ℕ → List ℕ → List ℕ) (key : List ℕ) → length key ≡ 16 → TweakableCipher 512 (E key) (D key) → Pack E D key

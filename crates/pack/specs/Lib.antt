@@ -1,4 +1,3 @@
-pub mod Layout
 pub mod Sealing
 pub mod Opening
 pub mod Theorems

@@ -8,7 +8,7 @@ use lib.ListN.{length, take}
 use Rattle.blocks.specs.Bytes.{Bytes, equal}
 use Rattle.blocks.specs.One.{OneString}
 use Rattle.blocks.specs.Call.{leftBy}
-use Rattle.pack.specs.Layout.{tweak, used, passes}
+use Rattle.layout.specs.Layout.{tweak, used, passes}
 use Rattle.pack.specs.Sealing.{seal}
 use Rattle.pack.specs.declared.opening.Opened.{Opened}
 use Rattle.pack.specs.declared.opening.Opened.the-variants.{Done, KeyLength, BlockLength, PlaceTooHigh, CheckFailed}

@@ -5,7 +5,7 @@ use mathlib.Core.List.{List}
 use lib.Dec.{ltb, eqb}
 use lib.ListN.{length}
 use Rattle.blocks.specs.Bytes.{Bytes}
-use Rattle.pack.specs.Layout.{plainBlock, tweak}
+use Rattle.layout.specs.Layout.{plainBlock, tweak}
 use Rattle.pack.specs.declared.sealing.Sealed.{Sealed}
 use Rattle.pack.specs.declared.sealing.Sealed.the-variants.{Done, KeyLength, BlockLength, PayloadTooLong, PlaceTooHigh}
 

@@ -7,7 +7,7 @@ use lib.ListN.{length, take}
 use Rattle.blocks.specs.Bytes.{OfLength}
 use Rattle.blocks.specs.Permutation.{TweakableCipher}
 use Rattle.hch.specs.Hch.{enciphered, deciphered}
-use Rattle.pack.specs.Layout.{plainBlock}
+use Rattle.layout.specs.Layout.{plainBlock}
 use Rattle.pack.specs.Sealing.{seal, WithinLimits}
 use Rattle.pack.specs.Opening.{numberOf, decipheredBlock, answerOf, opensTo, OneBlock, NoPayload}
 use Rattle.pack.specs.declared.opening.Opened.the-variants.{Done}

@@ -2,8 +2,7 @@
 ghost use mathlib.Core.Path.{_≡_};
 ghost use lib.ListN.{length};
 ghost use Rattle.hch.specs.Hch.{enciphered, deciphered};
-ghost use Rattle.pack.specs.Layout.{tweak as tweakOf};
-use crate::layout;
+ghost use Rattle.layout.specs.Layout.{tweak as tweakOf};
 
 // Enciphers the block in place.
 pub(crate) fn encipher(key: &[u8], pack: u64, place: u32, block: &mut [u8])

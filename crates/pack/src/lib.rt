@@ -1,6 +1,5 @@
 // The 512-byte block: a payload sealed for a pack and a place, and opened again.
 mod cipher;
-mod layout;
 mod opening;
 mod sealing;
 

@@ -4,7 +4,6 @@ ghost use Rattle.blocks.specs.Call.{leftBy};
 ghost use Rattle.hch.specs.Hch.{enciphered, deciphered};
 ghost use Rattle.pack.specs.Opening.{numberOf, decipheredBlock, answerOf, Meaning};
 use crate::cipher;
-use crate::layout;
 
 // What opening answers: the length of the payload, or why the block was not opened.
 pub enum Opened {
@@ -47,8 +46,9 @@ pub fn open(key: &[u8], pack: u64, place: u32, block: &mut [u8]) -> Opened
         return Opened::PlaceTooHigh;
     }
     cipher::decipher(key, pack, place, block);
-    if layout::passes(pack, place, block) {
-        return Opened::Done(layout::used(block));
+    let u = layout::read(pack, place, block);
+    if u <= 496 {
+        return Opened::Done(u);
     }
     cipher::encipher(key, pack, place, block);
     Opened::CheckFailed

@@ -5,7 +5,6 @@ ghost use Rattle.hch.specs.Hch.{enciphered, deciphered};
 ghost use Rattle.pack.specs.Sealing.{seal as sealedBy, numberOf, answerOf};
 ghost use Rattle.pack.specs.Opening.{OneBlock};
 use crate::cipher;
-use crate::layout;
 
 // What sealing answers: that it was done, or why it was not.
 pub enum Sealed {
@@ -49,8 +48,7 @@ pub fn seal(key: &[u8], payload: &[u8], pack: u64, place: u32, block: &mut [u8])
     if place > 65535 {
         return Sealed::PlaceTooHigh;
     }
-    layout::copy(payload, block);
-    layout::put_check(payload.len(), pack, place, block);
+    layout::write(payload, pack, place, block);
     cipher::encipher(key, pack, place, block);
     Sealed::Done
 }

@@ -5,8 +5,8 @@ use borrow.Author.Needs.{needs}
 use denote.Ref.{now}
 use Rattle.hch.specs.Hch.{enciphered}
 use Rattle.hch.proofs.Call.{work-done}
-use Rattle.pack.specs.Layout.{tweak as tweakOf}
-use Rattle.pack.proofs.Check.{tweak-of-length}
+use Rattle.layout.specs.Layout.{tweak as tweakOf}
+use Rattle.layout.proofs.Check.{tweak-of-length}
 use Rattle.pack.proofs.cipher.encipher.Statement.{statement}
 use Rattle.pack.proofs.cipher.encipher.Tie as tie
 

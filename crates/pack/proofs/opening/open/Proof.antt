@@ -1,13 +1,13 @@
 -- Each refusal is that of its test, and the check decides the rest; what fails it is enciphered again.
 -- Assumes nothing.
-use mathlib.Core.Path.{_≡_, refl, sym, _∙_}
+use mathlib.Core.Path.{_≡_, refl, sym}
 use mathlib.Core.Bool.{true, false}
 use borrow.Author.Needs.{needs}
 use borrow.Author.Tests.{lt-ltb, eq-eqb, ne-eqb}
 use denote.Ref.{now}
 use Rattle.blocks.specs.Bytes.{Bytes}
 use Rattle.hch.specs.Hch.{enciphered, deciphered}
-use Rattle.pack.specs.Layout.{passes as passesCheck}
+use Rattle.layout.proofs.Check.{read-passed, read-failed}
 use Rattle.pack.specs.Opening.{decipheredBlock, answerOf}
 use Rattle.pack.specs.declared.opening.Opened.the-variants.{Done, KeyLength, BlockLength, PlaceTooHigh, CheckFailed}
 use Rattle.pack.proofs.OneBlock.{by-check, given-back}
@@ -45,11 +45,8 @@ returns-3 c =
 decipher-requires : tie.Need-decipher-requires
 decipher-requires c κs = search needs
 
-passes-requires : tie.Need-passes-requires
-passes-requires c κs = search needs
-
-used-requires : tie.Need-used-requires
-used-requires c κs = search needs
+read-requires : tie.Need-read-requires
+read-requires c κs = search needs
 
 same-length : tie.Need-same-length
 same-length c = search needs
@@ -57,7 +54,7 @@ same-length c = search needs
 returns-4 : tie.Need-returns-4
 unfolding decipheredBlock
 returns-4 c =
-    let p = c .before .before .before in
+    let p = c .before in
     let d = p .before .before .before .before in
     let d3 = d .before .before in
     let d2 = d3 .before in
@@ -68,11 +65,10 @@ returns-4 c =
     let C = now (a .block) in
     let B = decipheredBlock deciphered key (a .pack) (a .place) C in
     let plain : d .decipher .last .1 .1 .1 .0 ≡ B = d .decipher .ensures in
-    let passed : passesCheck (a .pack) (a .place) B ≡ true = rw plain at (sym (p .passes .ensures) ∙ c .before .before .if4 .taken) in
-    let answered : Done (c .used .result) ≡ answerOf deciphered key (a .pack) (a .place) C =
-    rw (c .used .ensures, plain)
-    (sym (by-check deciphered key (a .pack) (a .place) C (d1 .if1 .left) (d2 .if2 .left) (d3 .if3 .left) true passed)) in
-    (answered, (plain, hch-meaning key (a .pack) (a .place) C _ (Done (c .used .result)) (λ i. known .slice-known .given i .fits) answered plain))
+    let told = read-passed (a .pack) (a .place) B (p .read .result) (rw plain at (p .read .ensures)) (c .if4 .taken) in
+    let answered : Done (p .read .result) ≡ answerOf deciphered key (a .pack) (a .place) C =
+    rw (told .1) (sym (by-check deciphered key (a .pack) (a .place) C (d1 .if1 .left) (d2 .if2 .left) (d3 .if3 .left) true (told .0))) in
+    (answered, (plain, hch-meaning key (a .pack) (a .place) C _ (Done (p .read .result)) (λ i. known .slice-known .given i .fits) answered plain))
 
 encipher-requires : tie.Need-encipher-requires
 encipher-requires c κs = search needs
@@ -95,7 +91,7 @@ returns-5 c =
     let C = now (a .block) in
     let B = decipheredBlock deciphered key (a .pack) (a .place) C in
     let plain : d .decipher .last .1 .1 .1 .0 ≡ B = d .decipher .ensures in
-    let failed : passesCheck (a .pack) (a .place) B ≡ false = rw plain at (sym (p .passes .ensures) ∙ again .before .before .if4 .left) in
+    let failed = read-failed (a .pack) (a .place) B (p .read .result) (rw plain at (p .read .ensures)) (again .before .before .if4 .left) in
     let answered : CheckFailed ≡ answerOf deciphered key (a .pack) (a .place) C =
     sym (by-check deciphered key (a .pack) (a .place) C (d1 .if1 .left) (d2 .if2 .left) (d3 .if3 .left) false failed) in
     let bytes : Bytes C = λ i. known .slice-known .given i .fits in
@@ -111,8 +107,7 @@ open-spec =
     returns-2
     returns-3
     decipher-requires
-    passes-requires
-    used-requires
+    read-requires
     same-length
     returns-4
     encipher-requires

@@ -7,7 +7,7 @@ use borrow.Author.Tests.{lt-ltb, le-ltb, eq-eqb, ne-eqb}
 use denote.Ref.{now}
 use Rattle.hch.specs.Hch.{enciphered}
 use Rattle.pack.specs.Sealing.{seal as sealedBy, WithinLimits, answerOf}
-use Rattle.pack.proofs.Check.{plain-written}
+use Rattle.layout.proofs.Check.{both-fit}
 use Rattle.pack.proofs.Theorems.{hch-pack}
 use Rattle.pack.proofs.sealing.seal.Statement.{statement}
 use Rattle.pack.proofs.sealing.seal.Tie as tie
@@ -30,11 +30,8 @@ returns-4 c =
     let d = c .before .before in
     (rw (eq-eqb _ 16 (d .before .if1 .left), eq-eqb _ 512 (d .if2 .left), le-ltb 496 _ (c .before .if3 .left), lt-ltb 65535 _ (c .if4 .taken)), (refl, λ e. absurd (omega (arith, e))))
 
-copy-requires : tie.Need-copy-requires
-copy-requires c κs = search needs
-
-put-check-requires : tie.Need-put-check-requires
-put-check-requires c κs = search needs
+write-requires : tie.Need-write-requires
+write-requires c κs = search needs
 
 encipher-requires : tie.Need-encipher-requires
 encipher-requires c κs = search needs
@@ -46,9 +43,8 @@ returns-5 : tie.Need-returns-5
 unfolding answerOf sealedBy
 returns-5 c =
     let work = c .before .before in
-    let checked = work .before .before .before .before in
-    let copied = checked .before .before .before .before in
-    let d4 = copied .before .before in
+    let written = work .before .before .before .before in
+    let d4 = written .before .before in
     let d3 = d4 .before in
     let d2 = d3 .before in
     let d1 = d2 .before in
@@ -61,12 +57,7 @@ returns-5 c =
       place-limit = d4 .if4 .left;
     } in
     let left : work .encipher .last .1 .1 .1 .0 ≡ sealedBy enciphered (now (a .key)) payload (a .pack) (a .place) =
-    rw (
-      work .encipher .ensures,
-      checked .put-check .ensures,
-      copied .copy .ensures,
-      plain-written payload (now (a .block)) (a .pack) (a .place) (d3 .if3 .left) (d2 .if2 .left),
-    ) in (
+    rw (work .encipher .ensures, written .write .ensures, both-fit payload (now (a .block)) (d3 .if3 .left) (d2 .if2 .left)) in (
       rw (eq-eqb _ 16 (d1 .if1 .left), eq-eqb _ 512 (d2 .if2 .left), le-ltb 496 _ (d3 .if3 .left), le-ltb 65535 _ (d4 .if4 .left)),
       (left, λ e. rw left (hch-pack (now (a .key)) (d1 .if1 .left) .one-block payload (a .pack) (a .place) limits)),
     )
@@ -79,8 +70,7 @@ seal-spec =
     returns-2
     returns-3
     returns-4
-    copy-requires
-    put-check-requires
+    write-requires
     encipher-requires
     same-length
     returns-5)

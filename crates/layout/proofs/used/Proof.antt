@@ -4,9 +4,9 @@ use mathlib.Core.Path.{sym}
 use native.Mathlib.Omega.{arith}
 use borrow.Author.Needs.{needs}
 use denote.Ref.{now}
-use Rattle.pack.proofs.Check.{used-bytes}
-use Rattle.pack.proofs.layout.used.Statement.{statement}
-use Rattle.pack.proofs.layout.used.Tie as tie
+use Rattle.layout.proofs.Check.{used-bytes}
+use Rattle.layout.proofs.used.Statement.{statement}
+use Rattle.layout.proofs.used.Tie as tie
 
 shared-slice-read-result : tie.Need-shared-slice-read-result
 shared-slice-read-result c = search needs

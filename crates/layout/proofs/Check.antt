@@ -1,12 +1,12 @@
 -- The plain block and its check.
 -- Assumes nothing.
-use Prim.Native.Nat.{ℕ, zero, suc, _+_, _-_, _*_, _^_, _≤_}
-use mathlib.Core.Path.{_≡_, refl, sym, _∙_}
-use mathlib.Core.Bool.{true, _&&_, and-assoc}
+use Prim.Native.Nat.{ℕ, zero, suc, _+_, _-_, _*_, _^_, _≤_, _<_}
+use mathlib.Core.Path.{_≡_, refl, sym, ap, _∙_}
+use mathlib.Core.Bool.{Bool, true, false, cond, _&&_, and-assoc}
 use mathlib.Core.List.{List, _++_, append-assoc}
 use native.Mathlib.Nat.{zero-div, zero-add, mod-eq-of-lt}
 use native.Mathlib.Omega.{arith}
-use borrow.Author.Tests.{le-leb, leb-true}
+use borrow.Author.Tests.{le-leb, leb-true, eq-eqb}
 use lib.Dec.{leb}
 use lib.ListN.{length, getD, take, drop, replicate, length-append, length-replicate, length-drop, length-take, take-append-drop}
 use lib.Seq.{drop-cons, drop-drop, drop-at, take-all, take-at, length-take-le}
@@ -14,7 +14,7 @@ use Rattle.blocks.specs.Bytes.{Bytes, OfLength, number, bytes, equal, overwrite
 use Rattle.blocks.proofs.Bytes.{length-bytes, bytes-below, bytes-number, number-bytes, below-append, below-take, below-drop}
 use Rattle.blocks.proofs.Place.{overwrite-append, overwrite-whole}
 use Rattle.blocks.proofs.One.{both, equal-append, equal-refl, equal-true}
-use Rattle.pack.specs.Layout.{check, plainBlock, tweak, used, passes}
+use Rattle.layout.specs.Layout.{check, plainBlock, tweak, used, passes, fits, payloadLength}
 
 -- u is two bytes.
 pub used-bytes : (B : List ℕ) → 510 ≤ length B → used B ≡ getD B 508 0 * 256 + getD B 509 0
@@ -190,3 +190,40 @@ passes-only pack place B h e =
     let l = leb-true (used B) 496 (parts .0) in
     let n : length (take (used B) B) ≡ used B = length-take-le (used B) B (omega (arith, h)) in
     (l, rw (n, sym (equal-true (drop (used B) B) (check (used B) pack place) (parts .1)), take-append-drop))
+
+-- What passes has 512 bytes.
+by-length : (pack place : ℕ) (B : List ℕ) → (length B ≡ 512 → ⊥) → (t : Bool) → passes pack place B ≡ t → t ≡ false
+unfolding passes
+by-length pack place B h false e = refl
+by-length pack place B h true e =
+    let u = used B in
+    let parts = both (leb u 496) (equal (drop u B) (check u pack place)) e in
+    let same : length (drop u B) ≡ 496 - u + 16 =
+    ap length (equal-true (drop u B) (check u pack place) (parts .1)) ∙ length-check u pack place in
+    absurd (h (omega (arith, leb-true u 496 (parts .0), same, length-drop u B)))
+
+pub passes-length : (pack place : ℕ) (B : List ℕ) → (length B ≡ 512 → ⊥) → passes pack place B ≡ false
+passes-length pack place B h = by-length pack place B h (passes pack place B) refl
+
+-- What the length that was read tells of the check.
+module _ (pack place : ℕ) (B : List ℕ) (u : ℕ) where
+  by-passed : (t : Bool) → u ≡ cond t (used B) 497 → u ≤ 496 → (t ≡ true) × (u ≡ used B)
+  by-passed true e l = (refl, e)
+  by-passed false e l = absurd (omega (arith, e))
+
+  by-failed : (t : Bool) → passes pack place B ≡ t → u ≡ cond t (used B) 497 → 496 < u → t ≡ false
+  unfolding passes
+  by-failed false p e l = refl
+  by-failed true p e l = absurd (omega (arith, e, leb-true (used B) 496 (both (leb (used B) 496) (equal (drop (used B) B) (check (used B) pack place)) p .0)))
+
+  pub read-passed : u ≡ payloadLength pack place B → u ≤ 496 → (passes pack place B ≡ true) × (u ≡ used B)
+  unfolding payloadLength
+  read-passed = by-passed (passes pack place B)
+
+  pub read-failed : u ≡ payloadLength pack place B → 496 < u → passes pack place B ≡ false
+  unfolding payloadLength
+  read-failed = by-failed (passes pack place B) refl
+
+pub both-fit : (payload block : List ℕ) → length payload ≤ 496 → length block ≡ 512 → fits payload block ≡ true
+unfolding fits
+both-fit payload block h l = rw (le-leb (length payload) 496 h, eq-eqb (length block) 512 l)

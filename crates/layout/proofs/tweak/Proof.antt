@@ -2,9 +2,9 @@
 -- Assumes nothing.
 use borrow.Author.Needs.{needs}
 use Rattle.blocks.specs.Bytes.{bytes, overwrite}
-use Rattle.pack.specs.Layout.{tweak as tweakOf}
-use Rattle.pack.proofs.layout.tweak.Statement.{statement}
-use Rattle.pack.proofs.layout.tweak.Tie as tie
+use Rattle.layout.specs.Layout.{tweak as tweakOf}
+use Rattle.layout.proofs.tweak.Statement.{statement}
+use Rattle.layout.proofs.tweak.Tie as tie
 
 slice-aggregate-put : tie.Need-slice-aggregate-put
 slice-aggregate-put c = search needs

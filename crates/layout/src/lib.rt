@@ -1,10 +1,11 @@
-// The plain block and the tweak, as 01 lays them out, on lent bytes.
+// The plain block of 512 bytes and its tweak, as 01 lays them out, on lent bytes. Nothing here knows of a cipher.
 ghost use Prim.Native.Nat.{_+_, _≤_};
 ghost use mathlib.Core.Path.{_≡_};
+ghost use mathlib.Core.Bool.{cond};
 ghost use lib.Dec.{eqb};
 ghost use lib.ListN.{length, take, drop};
 ghost use Rattle.blocks.specs.Bytes.{bytes, equal, overwrite};
-ghost use Rattle.pack.specs.Layout.{check, tweak as tweakOf, used as usedOf, passes as passesCheck};
+ghost use Rattle.layout.specs.Layout.{check, plainBlock, tweak as tweakOf, used as usedOf, passes as passesCheck, fits, payloadLength};
 
 // Writes a number in n bytes from place `at` on, its lowest byte last.
 fn put(out: &mut [u8], at: usize, n: usize, value: u64)
@@ -37,7 +38,7 @@ fn difference(s: &[u8], at: usize, n: usize, value: u64) -> u8
 }
 
 // Writes bytes over the front of others.
-pub(crate) fn copy(from: &[u8], to: &mut [u8])
+fn copy(from: &[u8], to: &mut [u8])
     requires { ⌜ length (now from) ≤ length (now to) ⌝ }
     ensures { λ _. ⌜ now (to .exit) ≡ overwrite 0 (now (from .entry)) (now (to .entry)) ⌝ }
 {
@@ -49,7 +50,7 @@ pub(crate) fn copy(from: &[u8], to: &mut [u8])
 }
 
 // Writes the check behind a payload of u bytes.
-pub(crate) fn put_check(u: usize, pack: u64, place: u32, block: &mut [u8])
+fn put_check(u: usize, pack: u64, place: u32, block: &mut [u8])
     requires { ⌜ (u ≤ 496) × (length (now block) ≡ 512) ⌝ }
     ensures { λ _. ⌜ now (block .exit) ≡ overwrite u (check u pack place) (now (block .entry)) ⌝ }
 {
@@ -60,8 +61,22 @@ pub(crate) fn put_check(u: usize, pack: u64, place: u32, block: &mut [u8])
     put(block, 510, 2, 0);
 }
 
+// Writes the plain block of a payload, or nothing where either has another length.
+pub fn write(payload: &[u8], pack: u64, place: u32, block: &mut [u8])
+    ensures { λ _. ⌜ now (block .exit) ≡ cond (fits (now (payload .entry)) (now (block .entry))) (plainBlock (now (payload .entry)) pack place) (now (block .entry)) ⌝ }
+{
+    if payload.len() > 496 {
+        return;
+    }
+    if block.len() != 512 {
+        return;
+    }
+    copy(payload, block);
+    put_check(payload.len(), pack, place, block);
+}
+
 // The tweak of a pack and a place.
-pub(crate) fn tweak(pack: u64, place: u32) -> [u8; 16]
+pub fn tweak(pack: u64, place: u32) -> [u8; 16]
     ensures { λ r. ⌜ r ≡ tweakOf pack place ⌝ }
 {
     let mut t = [0u8; 16];
@@ -71,15 +86,15 @@ pub(crate) fn tweak(pack: u64, place: u32) -> [u8; 16]
 }
 
 // u, where it stands in a plain block.
-pub(crate) fn used(block: &[u8]) -> usize
+fn used(block: &[u8]) -> usize
     requires { ⌜ length (now block) ≡ 512 ⌝ }
     ensures { λ r. ⌜ r ≡ usedOf (now (block .entry)) ⌝ }
 {
     (block[508] as usize) * 256 + (block[509] as usize)
 }
 
-// Whether an opened block passes its check.
-pub(crate) fn passes(pack: u64, place: u32, block: &[u8]) -> bool
+// Whether a block passes its check.
+fn passes(pack: u64, place: u32, block: &[u8]) -> bool
     requires { ⌜ length (now block) ≡ 512 ⌝ }
     ensures { λ r. ⌜ r ≡ passesCheck pack place (now (block .entry)) ⌝ }
 {
@@ -92,4 +107,17 @@ pub(crate) fn passes(pack: u64, place: u32, block: &[u8]) -> bool
     let place_differs = difference(block, 504, 4, place as u64);
     let zeros_differ = difference(block, 510, 2, 0);
     (filling_differs | pack_differs | place_differs | zeros_differ) == 0
+}
+
+// The length of the payload where a block passes its check, and 497 where it does not.
+pub fn read(pack: u64, place: u32, block: &[u8]) -> usize
+    ensures { λ r. ⌜ r ≡ payloadLength pack place (now (block .entry)) ⌝ }
+{
+    if block.len() != 512 {
+        return 497;
+    }
+    if passes(pack, place, block) {
+        return used(block);
+    }
+    497
 }

@@ -2,9 +2,9 @@
 -- Assumes nothing.
 use borrow.Author.Needs.{needs}
 use denote.Ref.{now}
-use Rattle.pack.proofs.Check.{check-written}
-use Rattle.pack.proofs.layout.put_check.Statement.{statement}
-use Rattle.pack.proofs.layout.put_check.Tie as tie
+use Rattle.layout.proofs.Check.{check-written}
+use Rattle.layout.proofs.put_check.Statement.{statement}
+use Rattle.layout.proofs.put_check.Tie as tie
 
 sub-put : tie.Need-sub-put
 sub-put c = search needs

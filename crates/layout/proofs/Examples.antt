@@ -4,7 +4,7 @@ use mathlib.Core.Path.{_≡_, refl}
 use mathlib.Core.List.{[], _∷_}
 use lib.ListN.{drop, replicate}
 use Rattle.blocks.specs.Bytes.{bytes}
-use Rattle.pack.specs.Layout.{check, plainBlock, tweak}
+use Rattle.layout.specs.Layout.{check, plainBlock, tweak}
 
 -- P12: pack 1, place 258 has the tweak 00 00 00 00 00 00 00 01 00 00 00 00 00 00 01 02.
 pub p12 : tweak 1 258 ≡ 0 ∷ 0 ∷ 0 ∷ 0 ∷ 0 ∷ 0 ∷ 0 ∷ 1 ∷ 0 ∷ 0 ∷ 0 ∷ 0 ∷ 0 ∷ 0 ∷ 1 ∷ 2 ∷ []

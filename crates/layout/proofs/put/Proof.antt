@@ -7,8 +7,8 @@ use native.Mathlib.Omega.{arith}
 use denote.Ref.{now}
 use Rattle.blocks.specs.Bytes.{bytes, overwrite}
 use Rattle.blocks.proofs.Place.{overwrite-nil, overwrite-next, length-overwrite, rest-next}
-use Rattle.pack.proofs.layout.put.Statement.{statement}
-use Rattle.pack.proofs.layout.put.Tie as tie
+use Rattle.layout.proofs.put.Statement.{statement}
+use Rattle.layout.proofs.put.Tie as tie
 
 abbrev Inv-loop : tie.InvT-loop
 Inv-loop out₀ at n value rest₀ i₀ out rest i =

@@ -8,9 +8,9 @@ use lib.ListN.{length, drop}
 use lib.Seq.{drop-length}
 use Rattle.blocks.specs.Bytes.{overwrite}
 use Rattle.blocks.proofs.Place.{overwrite-nil, length-overwrite}
-use Rattle.pack.proofs.Steps.{copy-next}
-use Rattle.pack.proofs.layout.copy.Statement.{statement}
-use Rattle.pack.proofs.layout.copy.Tie as tie
+use Rattle.layout.proofs.Steps.{copy-next}
+use Rattle.layout.proofs.copy.Statement.{statement}
+use Rattle.layout.proofs.copy.Tie as tie
 
 abbrev Inv-loop : tie.InvT-loop
 Inv-loop from to₀ i₀ to i = (i ≤ length from) × (to ≡ overwrite i (drop i from) to₀)

@@ -9,11 +9,11 @@ use denote.Ref.{now}
 use lib.Dec.{eqb}
 use lib.ListN.{take, drop}
 use Rattle.blocks.specs.Bytes.{bytes, equal}
-use Rattle.pack.specs.Layout.{used as usedOf, passes as passesCheck}
-use Rattle.pack.proofs.Steps.{none-of-four}
-use Rattle.pack.proofs.Check.{passes-parts}
-use Rattle.pack.proofs.layout.passes.Statement.{statement}
-use Rattle.pack.proofs.layout.passes.Tie as tie
+use Rattle.layout.specs.Layout.{used as usedOf, passes as passesCheck}
+use Rattle.layout.proofs.Steps.{none-of-four}
+use Rattle.layout.proofs.Check.{passes-parts}
+use Rattle.layout.proofs.passes.Statement.{statement}
+use Rattle.layout.proofs.passes.Tie as tie
 
 used-requires : tie.Need-used-requires
 used-requires c κs = search needs

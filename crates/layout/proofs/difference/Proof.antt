@@ -8,10 +8,10 @@ use denote.Ref.{now}
 use lib.ListN.{take, drop}
 use Rattle.blocks.specs.Bytes.{bytes, equal}
 use Rattle.blocks.proofs.Place.{rest-next}
-use Rattle.pack.proofs.Steps.{differ-next}
+use Rattle.layout.proofs.Steps.{differ-next}
 use lib.Dec.{eqb}
-use Rattle.pack.proofs.layout.difference.Statement.{statement}
-use Rattle.pack.proofs.layout.difference.Tie as tie
+use Rattle.layout.proofs.difference.Statement.{statement}
+use Rattle.layout.proofs.difference.Tie as tie
 
 abbrev Inv-loop : tie.InvT-loop
 Inv-loop s at n value differ₀ rest₀ i₀ differ rest i =
