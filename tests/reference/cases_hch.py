@@ -19,7 +19,7 @@ import aes
 import hch
 from field import ONES, TOP
 from hch import LEAST, MOST
-from lines import LONGEST, NO, drawer, line
+from lines import LONGEST, NO, drawer, gather, line
 
 ZERO_BLOCK, ONES_BLOCK = bytes(16), b"\xff" * 16
 
@@ -255,16 +255,9 @@ UNDERSTOOD = re.compile(rb"h[ed]( ([0-9a-f]{2})*){3}")
 
 
 def cases():
-    """All cases of this part, each line once; the last is understood."""
-    given = {}
-    for group in (length_cases, long_cases, lost_file_cases, board_cases,
-                  bit_cases, hash_cases, refusal_cases, line_cases):
-        for text, answer in group():
-            good = len(text) <= LONGEST and UNDERSTOOD.fullmatch(text)
-            assert (answer == NO) == (not good), text[:80]
-            if text not in given:
-                yield text, answer
-            assert given.setdefault(text, answer) == answer, text[:80]
+    """All cases of this part; the last line is understood."""
+    return gather((length_cases, long_cases, lost_file_cases, board_cases,
+                   bit_cases, hash_cases, refusal_cases, line_cases), UNDERSTOOD)
 
 
 def check():

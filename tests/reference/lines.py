@@ -21,3 +21,17 @@ def drawer(seed):
     """A function that draws the next random block, as an int."""
     rng = random.Random(seed)
     return lambda: rng.getrandbits(128)
+
+
+def gather(groups, understood):
+    """All cases of the groups, each line once. NO alone answers a line exactly
+    if it is too long or the pattern does not match all of it.
+    """
+    given = {}
+    for group in groups:
+        for text, answer in group():
+            good = len(text) <= LONGEST and understood.fullmatch(text)
+            assert (answer == NO) == (not good), text[:80]
+            if text not in given:
+                yield text, answer
+            assert given.setdefault(text, answer) == answer, text[:80]
