@@ -38,7 +38,7 @@ passes pack place B = leb (used B) 496 && equal (drop (used B) B) (check (used B
 
 -- ---- what the contracts of the code cite
 
--- Whether a payload is one and a block is one.
+-- Whether a payload has at most 496 bytes and a block has 512.
 unfoldable pub fits : (payload block : List ℕ) → Bool
 fits payload block = leb (length payload) 496 && eqb (length block) 512
 
