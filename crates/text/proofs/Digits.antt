@@ -2,17 +2,21 @@
 -- on the text, two characters at a time. Assumes nothing.
 use mathlib.Core.Path.{_≡_, refl, ap}
 use mathlib.Core.Logic.{_⊎_, inl, inr, ⊎-elim}
-use mathlib.Core.Bool.{Bool, true, false, _&&_, _||_, and-eq-true-iff}
+use mathlib.Core.Bool.{Bool, true, false, cond, _&&_, _||_, and-eq-true-iff}
 use mathlib.Core.List.{List, [], _∷_, _++_}
 use Prim.Native.Nat.{ℕ, zero, suc, _+_, _-_, _*_, _/_, _%_, _≤_, _<_}
 use native.Mathlib.Nat.{not-suc-le-zero, le-of-suc-le-suc}
 use native.Mathlib.Numerals.{add-one}
 use native.Mathlib.Omega.{arith}
 use lib.ListN.{length, take, drop, getD, set}
-use lib.Seq.{drop-cons}
+use lib.Seq.{drop-cons, take-at}
 use lib.Dec.{leb, ltb, eqb}
-use borrow.Author.Tests.{le-leb, lt-leb, lt-ltb, le-ltb, leb-true, ltb-true, ltb-false, eq-eqb, eqb-true}
-use Rattle.text.specs.Hex.{digit, isDigit, value, hex, allDigits, isHex, unhex}
+use borrow.Author.Tests.{le-leb, lt-leb, lt-ltb, le-ltb, leb-true, ltb-true, ltb-false, eq-eqb, ne-eqb, eqb-true}
+use Rattle.text.specs.declared.hex.Decoded.{Decoded}
+use Rattle.text.specs.declared.hex.Decoded.the-variants.{Bytes, Refused}
+use Rattle.text.specs.Hex.{digit, isDigit, value, hex, allDigits, isHex, unhex, decodedOf, fieldOf}
+use Rattle.text.specs.Part.{before, split}
+use Rattle.text.proofs.Parts.{before-le, split-none}
 
 -- ---- one digit
 
@@ -113,7 +117,7 @@ unhex-store (c ∷ d ∷ s) (x ∷ out) (suc i) h k =
 
 -- ---- the two directions undo each other
 
-length-hex : (bs : List ℕ) → length (hex bs) ≡ 2 * length bs
+pub length-hex : (bs : List ℕ) → length (hex bs) ≡ 2 * length bs
 unfolding hex
 length-hex [] = refl
 length-hex (b ∷ bs) = omega (arith, length-hex bs)
@@ -155,3 +159,79 @@ pairs (c ∷ d ∷ s) e h =
 -- hexadecimal text comes back from its bytes
 pub hex-unhex : (s : List ℕ) → isHex s ≡ true → hex (unhex s) ≡ s
 hex-unhex s e = pairs s (even-digits s e .0) (even-digits s e .1)
+
+-- ---- a byte that is no digit does not stand among digits
+
+pub before-digits : (b : ℕ) (s : List ℕ) → isDigit b ≡ false → allDigits s ≡ true → before b s ≡ s
+unfolding before allDigits
+before-digits b [] n e = refl
+before-digits b (c ∷ s) n e =
+    let h = and-eq-true-iff (isDigit c) (allDigits s) .0 e in
+    let other : c ≡ b → ⊥ = λ same. let z : _≡_ {A = ℕ} 0 1 = cc (h .0, ap isDigit same) in omega arith in
+    rw (ne-eqb c b other) (ap (λ (l : List ℕ). c ∷ l) (before-digits b s n (h .1)))
+
+-- so they are one part
+pub split-digits : (b : ℕ) (s : List ℕ) → isDigit b ≡ false → allDigits s ≡ true → split b s ≡ s ∷ []
+split-digits b s n e = split-none b [] s (omega (arith, ap length (before-digits b s n e)))
+
+-- ---- what the answers tell
+
+-- a byte for two characters
+pub length-unhex : (s : List ℕ) → length (unhex s) ≡ length s / 2
+unfolding unhex
+length-unhex [] = refl
+length-unhex (c ∷ []) = refl
+length-unhex (c ∷ d ∷ s) = omega (arith, length-unhex s)
+
+-- so many bytes of what `decode` leaves are those of the text
+pub decoded-whole : (s out : List ℕ) → take (length s / 2) (unhex s ++ drop (length s / 2) out) ≡ unhex s
+decoded-whole s out = take-at (unhex s) (drop (length s / 2) out) (length s / 2) (length-unhex s)
+
+taken : (t : Bool) (k n : ℕ) → cond t (Bytes k) Refused ≡ Bytes n → (t ≡ true) × (n ≡ k)
+taken true k n e = (refl, cc)
+taken false k n e = let z : _≡_ {A = ℕ} 0 1 = cc in absurd (omega arith)
+
+-- the text is hexadecimal, and its bytes have room
+pub decoded-is : (s out : List ℕ) (n : ℕ) → decodedOf s out ≡ Bytes n → (isHex s ≡ true) × (n ≡ length s / 2) × (n ≤ length out)
+unfolding decodedOf
+decoded-is s out n e =
+    let t = taken (isHex s && leb (length s / 2) (length out)) (length s / 2) n e in
+    let h = and-eq-true-iff (isHex s) (leb (length s / 2) (length out)) .0 (t .0) in
+    let room = leb-true (length s / 2) (length out) (h .1) in
+    (h .0, t .1, omega arith)
+
+refused : (t : Bool) (k : ℕ) → cond (t && true) (Bytes k) Refused ≡ Refused → t ≡ false
+refused true k e = let z : _≡_ {A = ℕ} 0 1 = cc in absurd (omega arith)
+refused false k e = refl
+
+-- the text is not hexadecimal, where its bytes would have room
+pub decoded-not : (s out : List ℕ) → decodedOf s out ≡ Refused → length s / 2 ≤ length out → isHex s ≡ false
+unfolding decodedOf
+decoded-not s out e h = refused (isHex s) (length s / 2) (rw (le-leb (length s / 2) (length out) h) at e)
+
+ended : (t : Bool) (d : Decoded) (n : ℕ) → cond t d Refused ≡ Bytes n → (t ≡ true) × (d ≡ Bytes n)
+ended true d n e = (refl, e)
+ended false d n e = let z : _≡_ {A = ℕ} 0 1 = cc in absurd (omega arith)
+
+-- the field is hexadecimal, has an end, and its bytes have room
+pub field-is : (b : ℕ) (s out : List ℕ) (n : ℕ) → fieldOf b s out ≡ Bytes n
+    → (isHex (before b s) ≡ true) × (length (before b s) ≡ 2 * n) × (2 * n < length s) × (n ≤ length out)
+unfolding fieldOf
+field-is b s out n e =
+    let t = ended (ltb (length (before b s)) (length s)) (decodedOf (before b s) out) n e in
+    let d = decoded-is (before b s) out n (t .1) in
+    let short = ltb-true (length (before b s)) (length s) (t .0) in
+    let even = even-digits (before b s) (d .0) .0 in
+    (d .0, omega arith, omega arith, d .2)
+
+not-ended : (t : Bool) (d : Decoded) → cond t d Refused ≡ Refused → (t ≡ false) ⊎ (d ≡ Refused)
+not-ended true d e = inr e
+not-ended false d e = inl refl
+
+-- there is no end, or what stands in front of it is not hexadecimal
+pub field-not : (b : ℕ) (s out : List ℕ) → fieldOf b s out ≡ Refused → length s / 2 ≤ length out → (length s ≤ length (before b s)) ⊎ (isHex (before b s) ≡ false)
+unfolding fieldOf
+field-not b s out e h =
+    let shorter = before-le b s in
+    ⊎-elim (λ t. inl (ltb-false (length (before b s)) (length s) t)) (λ d. inr (decoded-not (before b s) out d (omega arith)))
+    (not-ended (ltb (length (before b s)) (length s)) (decodedOf (before b s) out) e)

@@ -1,14 +1,15 @@
 -- Every theorem of specs/Theorems.antt, from the laws beside this file.
 -- Assumes nothing.
 use Rattle.text.specs.Theorems.{Theorems}
-use Rattle.text.proofs.Digits.{unhex-hex, isHex-hex, hex-unhex}
-use Rattle.text.proofs.Lines.{appended-twice, count-twice}
+use Rattle.text.proofs.Digits.{unhex-hex, isHex-hex, hex-unhex, split-digits}
+use Rattle.text.proofs.Parts.{appended-twice, count-twice}
 
 pub theorems : Theorems
 theorems = record {
   bytes-back = unhex-hex;
   digits-of-bytes = isHex-hex;
   text-back = hex-unhex;
+  digits-uncut = split-digits;
   append-bytes = appended-twice;
   append-count = count-twice;
 }

@@ -4,6 +4,7 @@ use mathlib.Core.Bool.{Bool, true, cond, _&&_, _||_}
 use mathlib.Core.List.{List, [], _∷_, _++_}
 use lib.Dec.{ltb, leb, eqb}
 use lib.ListN.{length, take, drop}
+use Rattle.text.specs.Part.{before}
 use Rattle.text.specs.declared.hex.Decoded.{Decoded}
 use Rattle.text.specs.declared.hex.Decoded.the-variants.{Bytes, Refused}
 
@@ -55,3 +56,7 @@ decodedOf text out = cond (isHex text && leb (length text / 2) (length out)) (By
 unfoldable pub leftBy : Decoded → List ℕ → List ℕ → List ℕ
 leftBy (Bytes n) text out = unhex text ++ drop n out
 leftBy Refused text out = out
+
+-- What `decode_field` answers: as `decode` does for what stands in front of the first b, and that there is no field where there is no b.
+unfoldable pub fieldOf : ℕ → List ℕ → List ℕ → Decoded
+fieldOf b text out = cond (ltb (length (before b text)) (length text)) (decodedOf (before b text) out) Refused

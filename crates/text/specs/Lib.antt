@@ -1,3 +1,3 @@
 pub mod Hex
-pub mod Line
+pub mod Part
 pub mod Theorems

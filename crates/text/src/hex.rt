@@ -3,7 +3,8 @@ ghost use mathlib.Core.Path.{_≡_};
 ghost use mathlib.Core.Bool.{true};
 ghost use Prim.Native.Nat.{_+_, _*_, _<_};
 ghost use lib.ListN.{length, getD};
-ghost use Rattle.text.specs.Hex.{digit, isDigit, value, isHex, fitting, encodedIn, decodedOf, leftBy};
+ghost use Rattle.text.specs.Hex.{digit, isDigit, value, isHex, fitting, encodedIn, decodedOf, fieldOf, leftBy};
+ghost use Rattle.text.specs.Part.{before};
 
 // What `decode` answers: how many bytes it wrote, or that it wrote none.
 pub enum Decoded {
@@ -65,6 +66,19 @@ pub fn decode(text: &[u8], out: &mut [u8]) -> Decoded
         i += 1;
     }
     Decoded::Bytes(n)
+}
+
+// Decodes the field at the front of `text`, which ends at the first `end`, as `decode` does. Where
+// it answers n bytes, what follows the field begins at 2 * n + 1. Text with no `end` is refused.
+pub fn decode_field(text: &[u8], end: u8, out: &mut [u8]) -> Decoded
+    ensures { λ r. ⌜ r ≡ fieldOf end (now (text .entry)) (now (out .entry)) ⌝ }
+    ensures { λ r. ⌜ now (out .exit) ≡ leftBy r (before end (now (text .entry))) (now (out .entry)) ⌝ }
+{
+    let n = crate::part::find(text, 0, end);
+    if n >= text.len() {
+        return Decoded::Refused;
+    }
+    decode(&text[0..n], out)
 }
 
 // The byte whose two digits stand from place k on.

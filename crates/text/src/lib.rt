@@ -1,6 +1,6 @@
 // Text on lent slices of bytes: lower-case hexadecimal both ways, and the collecting of lines.
 pub mod hex;
-pub mod line;
+pub mod part;
 
 ghost use mathlib.Core.Path.{_≡_};
 ghost use Prim.Native.Nat.{min};

@@ -14,7 +14,7 @@ pub(crate) fn blocks_from(line: &[u8], data: &mut [u8]) -> usize
     let mut n = 0;
     let mut next = 0;
     while next <= line.len() {
-        let end = text::line::find(line, next, b' ');
+        let end = text::part::find(line, next, b' ');
         if data.len() - n < 16 {
             return 0;
         }
@@ -40,24 +40,15 @@ pub(crate) fn field(digits: &[u8], out: &mut [u8]) -> usize {
 }
 
 // Decodes the field at the front of `line`, which ends at the first space, to the front of `out`. Returns the place behind the
-// space, twice the number of bytes and one more; 0 says that no space ends it, it is not hexadecimal or it has no room. `decode`
-// tests the room too: here the test is what the second promise rests on.
+// space, twice the number of bytes and one more; 0 says that no space ends it, it is not hexadecimal or it has no room.
 pub(crate) fn first(line: &[u8], out: &mut [u8]) -> usize
     ensures { λ r. ⌜ r ≤ length (now (line .entry)) ⌝ }
     ensures { λ r. ⌜ r / 2 ≤ length (now (out .entry)) ⌝ }
 {
-    let end = text::line::find(line, 0, b' ');
-    if end >= line.len() {
-        return 0;
-    }
-    let next = end + 1;
-    if next / 2 > out.len() {
-        return 0;
-    }
-    let Decoded::Bytes(_) = text::hex::decode(&line[0..end], out) else {
+    let Decoded::Bytes(count) = text::hex::decode_field(line, b' ', out) else {
         return 0;
     };
-    next
+    2 * count + 1
 }
 
 // Writes a block as a line.

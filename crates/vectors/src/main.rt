@@ -58,8 +58,8 @@ fn lines(line: &mut [u8], count: usize, chunk: &[u8]) -> usize {
     let mut n = count;
     let mut at = 0;
     while at < chunk.len() {
-        let end = text::line::find(chunk, at, b'\n');
-        n = text::line::append(line, n, &chunk[at..end]);
+        let end = text::part::find(chunk, at, b'\n');
+        n = text::part::append(line, n, &chunk[at..end]);
         if end < chunk.len() {
             answer(line, n);
             n = 0;
@@ -81,7 +81,7 @@ fn answer(line: &[u8], count: usize) {
 
 // Writes the answer to a line and says so, or writes nothing. The command ends at the first space, and its fields come after.
 fn reply(line: &[u8]) -> bool {
-    let end = text::line::find(line, 0, b' ');
+    let end = text::part::find(line, 0, b' ');
     if end >= line.len() {
         return false;
     }

@@ -2,12 +2,12 @@
 -- The measure is what is left of the n bytes.
 use mathlib.Core.Path.{_≡_, refl}
 use mathlib.Core.List.{_++_}
-use Prim.Native.Nat.{ℕ, _+_, _-_, _*_, _/_, _≤_, _<_, min}
+use Prim.Native.Nat.{ℕ, _+_, _-_, _*_, _/_, _%_, _≤_, _<_, min}
 use native.Mathlib.Numerals.{add-one-le}
 use native.Mathlib.Omega.{arith}
-use lib.ListN.{length, take, drop, length-set}
+use lib.ListN.{length, take, drop, getD, length-set}
 use denote.Ref.{now}
-use Rattle.text.specs.Hex.{hex, fitting, encodedIn}
+use Rattle.text.specs.Hex.{digit, hex, fitting, encodedIn}
 use Rattle.text.proofs.Digits.{hex-store}
 use Rattle.text.proofs.hex.encode.Statement.{statement}
 use Rattle.text.proofs.hex.encode.Tie as tie
@@ -46,7 +46,7 @@ slice-write-out : tie.Need-slice-write-out Inv-loop μ-loop
 slice-write-out c = omega arith
 
 digit-of-requires-2 : tie.Need-digit-of-requires-2 Inv-loop μ-loop
-digit-of-requires-2 c κs = omega arith
+digit-of-requires-2 c κs = omega (arith, c .before .shared-slice-known2 .given (c .before .before .before .loop .i))
 
 add-out : tie.Need-add-out Inv-loop μ-loop
 add-out c = omega arith
@@ -64,10 +64,12 @@ loop-again : tie.Need-loop-again Inv-loop μ-loop
 loop-again c =
     let at-loop = c .before .before .before .before in
     let a = at-loop .before .before .before .before .args in
+    let i = at-loop .loop .i in
     let h = inside (c .before .before .before) in
-    let store = hex-store (now (a .bytes)) (now (a .out)) (at-loop .loop .i) (h .0) (h .1) in (
+    let high : c .before .digit-of .result ≡ digit (getD (now (a .bytes)) i 0 / 16) = c .before .digit-of .ensures in
+    let low : c .digit-of2 .result ≡ digit (getD (now (a .bytes)) i 0 % 16) = c .digit-of2 .ensures in (
       add-one-le (c .before .before .before .loop-test .taken),
-      rw (at-loop .loop .inv .1, c .before .digit-of .ensures, c .digit-of2 .ensures) store,
+      rw (at-loop .loop .inv .1, high, low) (hex-store (now (a .bytes)) (now (a .out)) i (h .0) (h .1)),
       simp length-set (at-loop .loop .inv .2),
     )
 

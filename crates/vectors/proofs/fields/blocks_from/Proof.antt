@@ -6,7 +6,7 @@ use native.Mathlib.Nat.{le-add-right}
 use mathlib.Core.Path.{_≡_, refl, _∙_}
 use denote.Ref.{now}
 use lib.ListN.{length}
-use Rattle.text.proofs.Lines.{before-within}
+use Rattle.text.proofs.Parts.{before-within}
 use Rattle.vectors.proofs.fields.blocks_from.Statement.{statement}
 use Rattle.vectors.proofs.fields.blocks_from.Tie as tie
 

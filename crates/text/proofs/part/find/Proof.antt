@@ -1,4 +1,4 @@
--- `text::line::find` meets its contract. The invariant: from i on the answer is the same as from `from` on, since no byte passed is b.
+-- `text::part::find` meets its contract. The invariant: from i on the answer is the same as from `from` on, since no byte passed is b.
 -- The measure is what is left of the slice.
 use mathlib.Core.Path.{_≡_, refl, ap, _∙_}
 use mathlib.Core.List.{List}
@@ -7,10 +7,10 @@ use native.Mathlib.Numerals.{add-one}
 use native.Mathlib.Omega.{arith}
 use lib.ListN.{length, drop, getD, drop-of-length-le}
 use denote.Ref.{now}
-use Rattle.text.specs.Line.{before}
-use Rattle.text.proofs.Lines.{before-here, before-past}
-use Rattle.text.proofs.line.find.Statement.{statement}
-use Rattle.text.proofs.line.find.Tie as tie
+use Rattle.text.specs.Part.{before}
+use Rattle.text.proofs.Parts.{before-here, before-past}
+use Rattle.text.proofs.part.find.Statement.{statement}
+use Rattle.text.proofs.part.find.Tie as tie
 
 abbrev Inv-loop : tie.InvT-loop
 Inv-loop s from b i₀ i = from + length (before b (drop from s)) ≡ i + length (before b (drop i s))

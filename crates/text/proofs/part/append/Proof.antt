@@ -1,4 +1,4 @@
--- `text::line::append` meets its contract. The invariant: the line goes on with the first i bytes of `more`. The measure is what is left of the n
+-- `text::part::append` meets its contract. The invariant: the line goes on with the first i bytes of `more`. The measure is what is left of the n
 -- bytes that have room.
 use mathlib.Core.Path.{_≡_, refl, sym, _∙_}
 use Prim.Native.Nat.{ℕ, _+_, _-_, _≤_, _<_, min}
@@ -6,10 +6,10 @@ use native.Mathlib.Numerals.{add-one, add-one-le}
 use native.Mathlib.Omega.{arith}
 use lib.ListN.{length, take, length-set}
 use denote.Ref.{now}
-use Rattle.text.specs.Line.{appended}
-use Rattle.text.proofs.Lines.{appended-none, appended-past, appended-room, appended-store}
-use Rattle.text.proofs.line.append.Statement.{statement}
-use Rattle.text.proofs.line.append.Tie as tie
+use Rattle.text.specs.Part.{appended}
+use Rattle.text.proofs.Parts.{appended-none, appended-past, appended-room, appended-store}
+use Rattle.text.proofs.part.append.Statement.{statement}
+use Rattle.text.proofs.part.append.Tie as tie
 
 abbrev Inv-loop : tie.InvT-loop
 Inv-loop line₀ count more n i₀ line i = (i ≤ n) × (line ≡ appended line₀ count (take i more)) × (length line ≡ length line₀)

@@ -3,7 +3,7 @@
 ghost use mathlib.Core.Path.{_≡_};
 ghost use Prim.Native.Nat.{_+_, min};
 ghost use lib.ListN.{length, drop};
-ghost use Rattle.text.specs.Line.{before, appended};
+ghost use Rattle.text.specs.Part.{before, appended};
 
 // The place of the first b at or after `from`; where there is none, the end of `s`, or `from` if it
 // is past that.

@@ -1,0 +1,134 @@
+-- What the fields of a line say, read one after the other: ps are those that were read before.
+-- Assumes nothing.
+use mathlib.Core.Path.{_≡_, refl}
+use mathlib.Core.Logic.{_⊎_, inl, inr, ⊎-elim}
+use mathlib.Core.Bool.{Bool, true, false, cond, and-false}
+use mathlib.Core.List.{List, [], _∷_, _++_}
+use Prim.Native.Nat.{ℕ, suc, _+_, _-_, _*_, _/_, _≤_, _<_}
+use native.Mathlib.Nat.{not-suc-le-zero, le-of-suc-le-suc}
+use native.Mathlib.Omega.{arith}
+use lib.ListN.{length, take, drop, getD}
+use lib.Dec.{ltb, eqb}
+use borrow.Author.Tests.{ltb-true, ltb-false, lt-leb, le-leb, eq-eqb, ne-eqb}
+use Rattle.text.specs.Hex.{isDigit, hex, isHex, unhex, fieldOf, decodedOf, leftBy}
+use Rattle.text.specs.Part.{before, splitFrom, split}
+use Rattle.text.specs.declared.hex.Decoded.{Decoded}
+use Rattle.text.specs.declared.hex.Decoded.the-variants.{Bytes, Refused}
+use Rattle.text.proofs.Digits.{even-digits, split-digits, hex-unhex, unhex-hex, isHex-hex, decoded-is, decoded-not, decoded-whole, field-is, field-not}
+use Rattle.text.proofs.Parts.{split-none, split-first}
+use Rattle.line.specs.Line.{Unknown, commanded, requested, spelled, requestOf, refusal, replyTo, answer}
+
+-- ---- lines that are not understood
+
+-- one field, or two
+few : (c : ℕ) (ps : List (List ℕ)) (f : List ℕ) → length ps ≤ 1 → requested c (ps ++ f ∷ []) ≡ Unknown
+unfolding requested
+few c [] f h = refl
+few c (a ∷ []) f h = refl
+few c (a ∷ b ∷ ps) f h = absurd (not-suc-le-zero (le-of-suc-le-suc h))
+
+-- four, or more
+many : (c : ℕ) (a b d : List ℕ) (ps : List (List ℕ)) → 0 < length ps → requested c (a ∷ b ∷ d ∷ ps) ≡ Unknown
+unfolding requested
+many c a b d [] h = absurd (not-suc-le-zero h)
+many c a b d (e ∷ ps) h = refl
+
+-- a field that is not hexadecimal
+not-hex : (c : ℕ) (ps qs : List (List ℕ)) (f : List ℕ) → isHex f ≡ false → requested c (ps ++ f ∷ qs) ≡ Unknown
+unfolding requested
+not-hex c [] [] f e = refl
+not-hex c [] (a ∷ []) f e = refl
+not-hex c [] (a ∷ b ∷ []) f e = simp e
+not-hex c [] (a ∷ b ∷ d ∷ qs) f e = refl
+not-hex c (a ∷ []) [] f e = refl
+not-hex c (a ∷ []) (b ∷ []) f e = simp (e, and-false)
+not-hex c (a ∷ []) (b ∷ d ∷ qs) f e = refl
+not-hex c (a ∷ b ∷ []) [] f e = simp (e, and-false)
+not-hex c (a ∷ b ∷ []) (d ∷ qs) f e = refl
+not-hex c (a ∷ b ∷ d ∷ []) qs f e = refl
+not-hex c (a ∷ b ∷ d ∷ g ∷ ps) qs f e = refl
+
+-- the parts of a string are one or more
+some : (t : Bool) (p : List ℕ) (ps qs : List (List ℕ)) → 0 < length qs → 0 < length (cond t (p ∷ ps) qs)
+some true p ps qs h = omega arith
+some false p ps qs h = h
+
+parts : (b : ℕ) (u xs : List ℕ) → 0 < length (splitFrom b u xs)
+unfolding splitFrom
+parts b u [] = omega arith
+parts b u (x ∷ xs) = some (eqb x b) u (splitFrom b [] xs) (splitFrom b (u ++ x ∷ []) xs) (parts b (u ++ x ∷ []) xs)
+
+-- whether a separator follows
+follows : (s : List ℕ) → (length (before 32 s) < length s) ⊎ (length s ≤ length (before 32 s))
+follows s = by (ltb (length (before 32 s)) (length s)) refl
+  where
+    by : (t : Bool) → ltb (length (before 32 s)) (length s) ≡ t → (length (before 32 s) < length s) ⊎ (length s ≤ length (before 32 s))
+    by true e = inl (ltb-true _ _ e)
+    by false e = inr (ltb-false _ _ e)
+
+-- what is lent of the decoded bytes, from place 0 on
+pub decoded-part : (f out left : List ℕ) (a : Decoded) (n : ℕ) → a ≡ Bytes n → n ≡ length f / 2 → left ≡ leftBy a f out → take (n - 0) left ≡ unhex f
+unfolding leftBy
+decoded-part f out left a n told e l =
+    let n-0 : n - 0 ≡ length f / 2 = omega arith in
+    rw (n-0, l, told, e) (decoded-whole f out)
+
+-- ---- the key and the tweak, behind which a space and further fields stand
+
+pub field-refused : (c : ℕ) (ps : List (List ℕ)) (s out : List ℕ) → length ps ≤ 1 → fieldOf 32 s out ≡ Refused → length s / 2 ≤ length out
+    → requested c (ps ++ split 32 s) ≡ Unknown
+field-refused c ps s out l e room =
+    ⊎-elim (λ h. ⊎-elim (λ n. absurd (omega arith)) (λ n. rw (split-first 32 [] s h) (not-hex c ps _ (before 32 s) n)) (field-not 32 s out e room))
+    (λ h. rw (split-none 32 [] s h) (few c ps s l)) (follows s)
+
+pub field-read : (s out : List ℕ) (n : ℕ) → fieldOf 32 s out ≡ Bytes n → split 32 s ≡ hex (unhex (before 32 s)) ∷ split 32 (drop (2 * n + 1) s)
+field-read s out n e =
+    let f = field-is 32 s out n e in
+    let behind : suc (length (before 32 s)) ≡ 2 * n + 1 = omega arith in
+    rw (hex-unhex (before 32 s) (f .0), ← behind) (split-first 32 [] s (omega arith))
+
+-- ---- the data, behind which nothing stands
+
+pub data-refused : (c : ℕ) (a b s out : List ℕ) → decodedOf s out ≡ Refused → length s / 2 ≤ length out → requested c (a ∷ b ∷ split 32 s) ≡ Unknown
+data-refused c a b s out e room =
+    ⊎-elim (λ h. rw (split-first 32 [] s h) (many c a b _ _ (parts 32 [] _)))
+    (λ h. rw (split-none 32 [] s h) (not-hex c (a ∷ b ∷ []) [] s (decoded-not s out e room))) (follows s)
+
+space : isDigit 32 ≡ false
+unfolding isDigit
+space = refl
+
+pub data-read : (c : ℕ) (key tweak s out : List ℕ) (n : ℕ) → ((i : ℕ) → getD key i 0 < 256) → ((i : ℕ) → getD tweak i 0 < 256) → decodedOf s out ≡ Bytes n
+    → requested c (hex key ∷ hex tweak ∷ split 32 s) ≡ commanded c key tweak (unhex s)
+unfolding requested
+data-read c key tweak s out n k t e =
+    let d = decoded-is s out n e in
+    rw (split-digits 32 s space (even-digits s (d .0) .1), isHex-hex key k, isHex-hex tweak t, d .0, unhex-hex key k, unhex-hex tweak t) refl
+
+-- ---- the whole line
+
+pub line-short : (line : List ℕ) → length line < 2 → spelled line ≡ Unknown
+unfolding spelled
+line-short [] h = refl
+line-short (c ∷ []) h = refl
+line-short (c ∷ d ∷ rest) h = absurd (omega arith)
+
+pub line-other : (line : List ℕ) → 2 ≤ length line → (getD line 1 0 ≡ 32 → ⊥) → spelled line ≡ Unknown
+unfolding spelled
+line-other [] h n = absurd (omega arith)
+line-other (c ∷ []) h n = absurd (omega arith)
+line-other (c ∷ d ∷ rest) h n = rw (ne-eqb d 32 n) refl
+
+pub line-fields : (line : List ℕ) → 2 ≤ length line → getD line 1 0 ≡ 32 → spelled line ≡ requested (getD line 0 0) (split 32 (drop 2 line))
+unfolding spelled
+line-fields [] h e = absurd (omega arith)
+line-fields (c ∷ []) h e = absurd (omega arith)
+line-fields (c ∷ d ∷ rest) h e = rw (eq-eqb d 32 e) refl
+
+pub answer-long : (line : List ℕ) → 8300 < length line → answer line ≡ refusal 9
+unfolding answer requestOf replyTo
+answer-long line h = rw (lt-leb (length line) 8300 h) refl
+
+pub answer-spelled : (line : List ℕ) → length line ≤ 8300 → answer line ≡ replyTo (spelled line)
+unfolding answer requestOf
+answer-spelled line h = rw (le-leb (length line) 8300 h) refl

@@ -1,0 +1,111 @@
+-- The field in front of the space is the tweak, or the line is not understood.
+-- Assumes nothing.
+use borrow.Author.Needs.{needs}
+use mathlib.Core.Path.{_≡_, sym, _∙_}
+use mathlib.Core.List.{[], _∷_}
+use Prim.Native.Nat.{_+_, _*_, _/_, _≤_, _<_}
+use native.Mathlib.Omega.{arith}
+use lib.ListN.{length}
+use denote.Ref.{now}
+use Rattle.text.specs.Hex.{hex}
+use Rattle.text.specs.Part.{before}
+use Rattle.text.proofs.Digits.{field-is}
+use Rattle.blocks.proofs.Place.{part-behind}
+use Rattle.line.specs.Line.{replyTo}
+use Rattle.line.proofs.Requests.{decoded-part, field-refused, field-read}
+use Rattle.line.proofs.answering.read_tweak.Statement.{statement}
+use Rattle.line.proofs.answering.read_tweak.Tie as tie
+
+slice-aggregate-decode-field : tie.Need-slice-aggregate-decode-field
+slice-aggregate-decode-field c = search needs
+
+decode-field-requires : tie.Need-decode-field-requires
+decode-field-requires c κs = search needs
+
+enum-known-n : tie.Need-enum-known-n
+enum-known-n c = search needs
+
+enum-told : tie.Need-enum-told
+enum-told c = search needs
+
+refuse-requires : tie.Need-refuse-requires
+refuse-requires c κs = search needs
+
+returns : tie.Need-returns
+unfolding replyTo
+returns c =
+    let told = c .before .before in
+    let decoded = told .before .before .before in
+    let args = decoded .before .before .before .before .args in
+    rw (field-refused (args .command) (hex (now (args .key)) ∷ []) (now (args .fields)) _ (omega arith) (sym (decoded .decode-field .ensures .0) ∙ told .enum-told .given .1) (omega arith)) (c .refuse .ensures)
+
+-- what the answer tells of the field in front of the space
+told-field : (c : tie.After-known-told)
+    → let fields = now (c .before .before .before .before .before .before .before .before .args .fields) in
+    let n = c .before .n .given .0 .0 in
+    (length (before 32 fields) ≡ 2 * n) × (2 * n < length fields) × (n ≤ 4150)
+told-field c =
+    let decoded = c .before .before .before .before in
+    let args = decoded .before .before .before .before .args in
+    let f = field-is 32 (now (args .fields)) _ (c .before .n .given .0 .0) (sym (decoded .decode-field .ensures .0) ∙ c .before .n .given .1) in
+    (f .1, f .2, f .3)
+
+sub-read-data : tie.Need-sub-read-data
+sub-read-data c = search needs
+
+part-read-data-start : tie.Need-part-read-data-start
+part-read-data-start c = search needs
+
+part-read-data-end : tie.Need-part-read-data-end
+part-read-data-end c = omega (arith, told-field (c .before))
+
+mul-read-data : tie.Need-mul-read-data
+mul-read-data c = omega (arith, told-field (c .before .before))
+
+add-read-data : tie.Need-add-read-data
+add-read-data c = omega (arith, told-field (c .before .before))
+
+sub-read-data-2 : tie.Need-sub-read-data-2
+sub-read-data-2 c = omega (arith, told-field (c .before .before))
+
+part-read-data-start-2 : tie.Need-part-read-data-start-2
+part-read-data-start-2 c = omega (arith, told-field (c .before .before))
+
+part-read-data-end-2 : tie.Need-part-read-data-end-2
+part-read-data-end-2 c = search needs
+
+read-data-requires : tie.Need-read-data-requires
+read-data-requires c κs = search needs
+
+returns-2 : tie.Need-returns-2
+returns-2 c =
+    let told = c .before .before .before .before .before in
+    let decoded = told .before .before .before .before in
+    let args = decoded .before .before .before .before .args in
+    let fields = now (args .fields) in
+    let n = told .before .n .given .0 .0 in
+    let is = sym (decoded .decode-field .ensures .0) ∙ told .before .n .given .1 in
+    let half : n ≡ length (before 32 fields) / 2 = omega (arith, told-field told) in
+    let part = decoded-part (before 32 fields) _ _ (decoded .decode-field .result) n (told .before .n .given .1) half (decoded .decode-field .ensures .1) in
+    rw (field-read fields _ n is) (rw (part, part-behind (2 * n + 1) fields) at (c .read-data .ensures))
+
+pub read-tweak-spec : {M : Type 1} → statement M
+read-tweak-spec =
+    tie.close
+    (tie.spec
+    slice-aggregate-decode-field
+    decode-field-requires
+    enum-known-n
+    enum-told
+    refuse-requires
+    returns
+    sub-read-data
+    part-read-data-start
+    part-read-data-end
+    mul-read-data
+    add-read-data
+    sub-read-data-2
+    part-read-data-start-2
+    part-read-data-end-2
+    read-data-requires
+    returns-2)

@@ -1,0 +1,86 @@
+-- The line goes on with what stands in front of the line feed, and is answered where one is found.
+-- Assumes nothing.
+use borrow.Author.Needs.{needs}
+use borrow.Author.Tests.{lt-ltb, le-ltb}
+use mathlib.Core.Path.{_≡_, refl}
+use Prim.Native.Nat.{_-_}
+use native.Mathlib.Omega.{arith}
+use lib.ListN.{length, take}
+use denote.Ref.{now}
+use Rattle.text.specs.Part.{before}
+use Rattle.text.proofs.Parts.{before-le, before-take}
+use Rattle.line.specs.Input.{endsIn, usedBy, keptLine, keptCount, countAfter, answerAfter}
+use Rattle.line.proofs.input.next.Statement.{statement}
+use Rattle.line.proofs.input.next.Tie as tie
+
+find-requires : tie.Need-find-requires
+find-requires c κs = search needs
+
+sub-append : tie.Need-sub-append
+sub-append c = search needs
+
+part-append-start : tie.Need-part-append-start
+part-append-start c = search needs
+
+part-append-end : tie.Need-part-append-end
+part-append-end c = omega (arith, c .before .find .ensures, before-le 10 (now (c .before .before .before .args .rest)))
+
+append-requires : tie.Need-append-requires
+append-requires c κs = search needs
+
+answer-kept-requires : tie.Need-answer-kept-requires
+answer-kept-requires c κs = search needs
+
+add-t18 : tie.Need-add-t18
+add-t18 c = search needs
+
+-- what stands in front of the line feed, as it was lent
+lent : (c : tie.After-append)
+    → let rest = now (c .before .before .before .before .before .args .rest) in
+    take (c .before .before .before .find .result - 0) rest ≡ before 10 rest
+lent c =
+    let found = c .before .before .before in
+    let rest = now (found .before .before .args .rest) in
+    let n : found .find .result - 0 ≡ length (before 10 rest) = omega (arith, found .find .ensures) in
+    rw n (before-take 10 rest)
+
+returns : tie.Need-returns
+unfolding endsIn usedBy keptLine keptCount countAfter answerAfter
+returns c =
+    let ended = c .before .before .before .before in
+    let appended = ended .before in
+    let found = appended .before .before .before in
+    let args = found .before .before .args in
+    let rest = now (args .rest) in
+    let place : found .find .result ≡ length (before 10 rest) = omega (arith, found .find .ensures) in
+    let ends = lt-ltb (length (before 10 rest)) (length rest) (rw place at (ended .if1 .taken)) in
+    let kept = rw (lent appended) at (appended .append .ensures .0) in
+    let line = rw (lent appended) at (appended .append .ensures .1) in
+    (rw ends (omega (arith, place)), (rw ends, (line, rw ends (rw (line, kept) at (c .answer-kept .ensures)))))
+
+returns-2 : tie.Need-returns-2
+unfolding endsIn usedBy keptLine keptCount countAfter answerAfter
+returns-2 c =
+    let appended = c .before in
+    let found = appended .before .before .before in
+    let args = found .before .before .args in
+    let rest = now (args .rest) in
+    let place : found .find .result ≡ length (before 10 rest) = omega (arith, found .find .ensures) in
+    let ends = le-ltb (length (before 10 rest)) (length rest) (rw place at (c .if1 .left)) in
+    let kept = rw (lent appended) at (appended .append .ensures .0) in
+    let line = rw (lent appended) at (appended .append .ensures .1) in
+    (rw ends (omega (arith, place, before-le 10 rest)), (rw ends kept, (line, rw ends (record { counted = refl; written = refl }))))
+
+pub next-spec : {M : Type 1} → statement M
+next-spec =
+    tie.close
+    (tie.spec
+    find-requires
+    sub-append
+    part-append-start
+    part-append-end
+    append-requires
+    answer-kept-requires
+    add-t18
+    returns
+    returns-2)

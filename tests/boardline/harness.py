@@ -1,0 +1,239 @@
+"""What the runs of the program and those of the script share.
+
+A run is a name and a function without arguments. The function returns a note
+or None, and raises Differs where something is not as it has to be.
+"""
+
+import contextlib
+import functools
+import os
+import pathlib
+import random
+import re
+import select
+import signal
+import subprocess
+import time
+
+import boardline
+from boardline import LONGEST
+
+ROOT = pathlib.Path(__file__).resolve().parents[2]
+
+SECONDS = 60  # a process that has not ended by then has failed
+PROMPT = 10  # seconds: the same for an answer, and without end of input
+
+answer = functools.cache(boardline.answer)
+
+
+def expected(data):
+    """The whole output for a whole input, by the reference."""
+    return b"".join(answer(line) + b"\n" for line in boardline.lines(data))
+
+
+class Differs(Exception):
+    """What was not as it has to be."""
+
+
+def shown(string, most=48):
+    return repr(string[:most]) + (".." if len(string) > most else "")
+
+
+def compare(what, wanted, got):
+    if got == wanted:
+        return
+    at = len(os.path.commonprefix([wanted, got]))
+    line = wanted.count(b"\n", 0, at) + 1
+    raise Differs(
+        f"{what} has {len(got)} bytes in the place of {len(wanted)}; from "
+        f"byte {at} on, in line {line}, it is {shown(got[at:])} in the place "
+        f"of {shown(wanted[at:])}")
+
+
+@contextlib.contextmanager
+def started(command, **options):
+    """A process in a session of its own, which is killed if it is left before
+    it has ended."""
+    process = subprocess.Popen(command, bufsize=0, start_new_session=True,
+                               **options)
+    try:
+        yield process
+    finally:
+        if process.poll() is None:
+            os.killpg(process.pid, signal.SIGKILL)
+            process.wait()
+        for pipe in (process.stdin, process.stdout, process.stderr):
+            if pipe:
+                pipe.close()
+
+
+def wait(process, seconds=SECONDS):
+    try:
+        return process.wait(seconds)
+    except subprocess.TimeoutExpired:
+        raise Differs(f"has not ended within {seconds} s") from None
+
+
+class Ended:
+    """What a process wrote, and its status."""
+
+    def __init__(self, stdout, stderr, status):
+        self.stdout, self.stderr, self.status = stdout, stderr, status
+
+    def check(self, stdout=b"", error_lines=0, status=None):
+        """Whether it wrote this, and none or one line on standard error. A
+        status of None stands for any, but not for a signal."""
+        compare("standard output", stdout, self.stdout)
+        lines = self.stderr.split(b"\n")
+        if error_lines == 0:
+            compare("standard error", b"", self.stderr)
+        elif len(lines) != 2 or lines[0] == b"" or lines[1] != b"":
+            raise Differs(f"standard error is {shown(self.stderr)} in the "
+                          "place of one line")
+        if self.status < 0:
+            raise Differs(f"ended by signal {-self.status}")
+        if status not in (None, self.status):
+            raise Differs(f"status {self.status} in the place of {status}")
+
+
+def check_end(process, status=None):
+    """The process ends, and has written nothing more on its two pipes."""
+    got = wait(process)
+    Ended(process.stdout.read(), process.stderr.read(), got).check(
+        status=status)
+
+
+def ended(command, data=None, stdin=subprocess.PIPE, stdout=subprocess.PIPE,
+          seconds=SECONDS, **options):
+    """Runs the command to its end on the data, or on an open file."""
+    with started(command, stdin=stdin, stdout=stdout, stderr=subprocess.PIPE,
+                 **options) as process:
+        try:
+            output, errors = process.communicate(data, seconds)
+        except subprocess.TimeoutExpired:
+            raise Differs(f"has not ended within {seconds} s") from None
+        return Ended(output or b"", errors, process.returncode)
+
+
+def ended_endless(command, **options):
+    """The same on lines without end."""
+    with started(["yes", "Q"], stdout=subprocess.PIPE) as source:
+        return ended(command, stdin=source.stdout, seconds=PROMPT, **options)
+
+
+def answers(command, data, status=None, **options):
+    """The data are answered as by the reference, without a word on standard
+    error."""
+    ended(command, data, **options).check(expected(data), status=status)
+
+
+def read(descriptor, most, seconds=PROMPT):
+    """Some bytes, at most so many, that arrive in time; none at the end."""
+    if not select.select([descriptor], [], [], seconds)[0]:
+        raise Differs(f"writes nothing more within {seconds} s")
+    return os.read(descriptor, most)
+
+
+def receive(descriptor, wanted):
+    """The wanted bytes arrive, and each part of them in time."""
+    got, left = [], len(wanted)
+    while left > 0 and (part := read(descriptor, left)):
+        got.append(part)
+        left -= len(part)
+    compare("the answer", wanted, b"".join(got))
+
+
+def receive_line(descriptor):
+    """A line arrives, and each byte of it in time."""
+    got = b""
+    while not got.endswith(b"\n") and (byte := read(descriptor, 1)):
+        got += byte
+    return got
+
+
+def receive_nothing(descriptor, seconds=0.2):
+    """Nothing arrives for some time."""
+    if select.select([descriptor], [], [], seconds)[0]:
+        raise Differs("an answer before the line had ended: "
+                      f"{shown(os.read(descriptor, 100))}")
+
+
+def promptly(command, status=None):
+    """A partner who waits for each answer before the next line."""
+    with started(command, stdin=subprocess.PIPE, stdout=subprocess.PIPE,
+                 stderr=subprocess.PIPE) as process:
+        output = process.stdout.fileno()
+        for line in [*EVERY_KIND, b"", b"Q"]:
+            process.stdin.write(line + b"\n")
+            receive(output, answer(line) + b"\n")
+        # Two lines and a part, then the rest of it.
+        line = GOOD[2]
+        process.stdin.write(b"Q\n" + GOOD[0] + b"\n" + line[:50])
+        receive(output, expected(b"Q\n" + GOOD[0]))
+        receive_nothing(output)
+        process.stdin.write(line[50:] + b"\n")
+        receive(output, expected(line))
+        # A last line without its line feed.
+        process.stdin.write(line)
+        receive_nothing(output)
+        process.stdin.close()
+        receive(output, expected(line))
+        check_end(process, status=status)
+
+
+# Lines to make inputs of. Few of them are good, since the reference is slow.
+
+def good_lines(rng, lengths):
+    """A line of each length of data both ways, the second on the answer of
+    the first."""
+    for length in lengths:
+        start = b" %s %s " % tuple(
+            rng.randbytes(16).hex().encode("ascii") for _ in range(2))
+        line = b"E" + start + rng.randbytes(length).hex().encode("ascii")
+        yield line
+        yield b"D" + start + answer(line)
+
+
+GOOD = list(good_lines(random.Random("boardline: good lines"),
+                       (16, 17, 40, 512, 2000, 4095, 4096)))
+
+REFUSED = [
+    b"E   ", b"D  00 00", *boardline.lines(boardline.WHOLE_INPUT),
+    GOOD[0][:-2], GOOD[-1] + b"00", GOOD[-1] + b"00" * 20,
+]
+assert {answer(line) for line in REFUSED} == {
+    b"no 1", b"no 2", b"no 3", b"no 4", b"no 9"}
+assert len(REFUSED[-1]) == LONGEST
+
+OVERLONG = [REFUSED[-1] + b"0", REFUSED[-1] + b"00",
+            b"0" * LONGEST + GOOD[0], b"\0" * 12000 + GOOD[1]]
+
+EVERY_KIND = [*GOOD, *REFUSED, *OVERLONG, GOOD[3]]
+
+OTHERS = re.sub(rb"[0-9a-f \n]", b"", bytes(range(256)))
+
+
+def malformed(rng):
+    """A good line with one character changed to what is no digit."""
+    line = bytearray(rng.choice(GOOD[:8]))
+    line[rng.randrange(1, len(line))] = rng.choice(OTHERS)
+    return bytes(line)
+
+
+def mixed(seed, size, longest=20000):
+    """Lines of all kinds, of at least so many bytes together."""
+    rng = random.Random(seed)
+    kinds = [
+        lambda: rng.choice(GOOD),
+        lambda: rng.choice(REFUSED),
+        lambda: malformed(rng),
+        lambda: rng.randbytes(rng.randrange(200)).replace(b"\n", b""),
+        lambda: (rng.choice(GOOD[:6]) * (1 + longest // 100))[
+            -rng.randint(LONGEST + 1, longest):],
+    ]
+    data = []
+    while size > 0:
+        [kind] = rng.choices(kinds, weights=(6, 3, 3, 2, 1))
+        data.append(kind() + b"\n")
+        size -= len(data[-1])
+    return b"".join(data)
