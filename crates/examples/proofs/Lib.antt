@@ -1,2 +1,3 @@
 pub mod Fips197
 pub mod Examples
+pub mod Program

@@ -136,16 +136,11 @@ unfolding flatMap linesOf lastAnswer
 last-answer [] h = rw (h .counted)
 last-answer (x ∷ xs) {line} {count} h = rw (last-some line count (omega arith), held-answer h, append-nil)
 
-pub chunks-so-far : {line₀ input written line : List ℕ} {count : ℕ} → length line₀ ≡ 8300 → Run line₀ input written line count
-    → written ≡ answersSoFar input
-unfolding answersSoFar
-chunks-so-far h r =
-    let k = kept h r in
-    rw (at-end k, ended-all (k .done) (k .under)) (k .told)
-
-pub chunks-whole : {line₀ input written line : List ℕ} {count : ℕ} → length line₀ ≡ 8300 → Run line₀ input written line count
-    → written ++ lastAnswer line count ≡ answers input
-unfolding answers
-chunks-whole h r =
-    let k = kept h r in
-    rw (at-end k, lines-all (k .done) (k .under), answers-append (k .done), ← last-answer (k .under) (k .held), ← k .told)
+pub in-chunks : {line₀ input written line : List ℕ} {count : ℕ} → length line₀ ≡ 8300 → Run line₀ input written line count
+    → (written ≡ answersSoFar input) × (written ++ lastAnswer line count ≡ answers input)
+unfolding answersSoFar answers
+in-chunks h r =
+    let k = kept h r in (
+      rw (at-end k, ended-all (k .done) (k .under)) (k .told),
+      rw (at-end k, lines-all (k .done) (k .under), answers-append (k .done), ← last-answer (k .under) (k .held), ← k .told),
+    )

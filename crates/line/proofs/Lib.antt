@@ -1,8 +1,7 @@
--- Laws of this crate's definitions. `Written`: an answer put together from parts. `Requests`: what the fields of a line say. `Room`: how long an answer
--- is at most. `Chunks`: an input in chunks. `Steps`: how much of a chunk a call uses up.
+-- Laws of this crate's definitions. `Written`: an answer put together from parts. `Requests`: what the fields of a line say. `Chunks`: an input in
+-- chunks. `Steps`: how much of a chunk a call uses up.
 pub mod Written
 pub mod Requests
-pub mod Room
 pub mod Chunks
 pub mod Steps
 pub mod Theorems

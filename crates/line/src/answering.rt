@@ -93,8 +93,8 @@ fn reply(number: u32, left: &[u8], out: &mut [u8; ROOM]) -> usize
     if number > 0 {
         return refuse(number, out);
     }
-    let n = text::hex::encode(left, out);
-    text::part::append(out, n, b"\n")
+    let digits = text::hex::encode(left, out);
+    text::part::append(out, digits, b"\n")
 }
 
 // Writes `no `, the number in decimal and a line feed.

@@ -4,6 +4,7 @@ use borrow.Author.Needs.{needs}
 use mathlib.Core.Path.{_≡_, refl}
 use mathlib.Core.List.{List}
 use Prim.Native.Nat.{ℕ, zero, suc}
+use native.Mathlib.Omega.{arith}
 use denote.Ref.{now}
 use Rattle.line.specs.Input.{keptAnswer, lastAnswer}
 use Rattle.line.proofs.input.last.Statement.{statement}
@@ -17,7 +18,9 @@ some line (suc count) n = refl
 
 returns : tie.Need-returns
 unfolding lastAnswer
-returns c = rw (c .if1 .taken) (record { counted = refl; written = refl })
+returns c =
+    let none : c .before .args .count ≡ 0 = omega (arith, c .if1 .taken) in
+    rw none (record { counted = refl; written = refl })
 
 answer-kept-requires : tie.Need-answer-kept-requires
 answer-kept-requires c κs = search needs
