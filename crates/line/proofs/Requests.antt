@@ -1,6 +1,6 @@
 -- What the fields of a line say, read one after the other: ps are those that were read before.
 -- Assumes nothing.
-use mathlib.Core.Path.{_≡_, refl}
+use mathlib.Core.Path.{_≡_, refl, sym, _∙_}
 use mathlib.Core.Logic.{_⊎_, inl, inr, ⊎-elim}
 use mathlib.Core.Bool.{Bool, true, false, cond, and-false}
 use mathlib.Core.List.{List, [], _∷_, _++_}
@@ -15,6 +15,7 @@ use Rattle.text.specs.Part.{before, splitFrom, split}
 use Rattle.text.specs.declared.hex.Decoded.{Decoded}
 use Rattle.text.specs.declared.hex.Decoded.the-variants.{Bytes, Refused}
 use Rattle.text.proofs.Digits.{even-digits, split-digits, hex-unhex, unhex-hex, isHex-hex, decoded-is, decoded-not, decoded-whole, field-is, field-not}
+use Rattle.blocks.proofs.Place.{part-behind}
 use Rattle.text.proofs.Parts.{split-none, split-first}
 use Rattle.line.specs.Line.{Unknown, commanded, requested, spelled, requestOf, refusal, replyTo, answer}
 
@@ -66,10 +67,10 @@ follows s = by (ltb (length (before 32 s)) (length s)) refl
     by true e = inl (ltb-true _ _ e)
     by false e = inr (ltb-false _ _ e)
 
--- what is lent of the decoded bytes, from place 0 on
-pub decoded-part : (f out left : List ℕ) (a : Decoded) (n : ℕ) → a ≡ Bytes n → n ≡ length f / 2 → left ≡ leftBy a f out → take (n - 0) left ≡ unhex f
+-- the decoded bytes, as they are lent on
+lent : (f out left : List ℕ) (a : Decoded) (n : ℕ) → a ≡ Bytes n → n ≡ length f / 2 → left ≡ leftBy a f out → take (n - 0) left ≡ unhex f
 unfolding leftBy
-decoded-part f out left a n told e l =
+lent f out left a n told e l =
     let n-0 : n - 0 ≡ length f / 2 = omega arith in
     rw (n-0, l, told, e) (decoded-whole f out)
 
@@ -81,11 +82,14 @@ field-refused c ps s out l e room =
     ⊎-elim (λ h. ⊎-elim (λ n. absurd (omega arith)) (λ n. rw (split-first 32 [] s h) (not-hex c ps _ (before 32 s) n)) (field-not 32 s out e room))
     (λ h. rw (split-none 32 [] s h) (few c ps s l)) (follows s)
 
-pub field-read : (s out : List ℕ) (n : ℕ) → fieldOf 32 s out ≡ Bytes n → split 32 s ≡ hex (unhex (before 32 s)) ∷ split 32 (drop (2 * n + 1) s)
-field-read s out n e =
-    let f = field-is 32 s out n e in
+-- Its bytes, and what stands behind its space, as both are lent on: their digits are the field again.
+pub field-read : (s out left : List ℕ) (a : Decoded) (n : ℕ) → a ≡ fieldOf 32 s out → a ≡ Bytes n → left ≡ leftBy a (before 32 s) out
+    → split 32 s ≡ hex (take (n - 0) left) ∷ split 32 (take (length s - (2 * n + 1)) (drop (2 * n + 1) s))
+field-read s out left a n e told l =
+    let f = field-is 32 s out n (sym e ∙ told) in
+    let half : n ≡ length (before 32 s) / 2 = omega arith in
     let behind : suc (length (before 32 s)) ≡ 2 * n + 1 = omega arith in
-    rw (hex-unhex (before 32 s) (f .0), ← behind) (split-first 32 [] s (omega arith))
+    rw (lent (before 32 s) out left a n told half l, part-behind (2 * n + 1) s, hex-unhex (before 32 s) (f .0), ← behind) (split-first 32 [] s (omega arith))
 
 -- ---- the data, behind which nothing stands
 
@@ -98,12 +102,13 @@ space : isDigit 32 ≡ false
 unfolding isDigit
 space = refl
 
-pub data-read : (c : ℕ) (key tweak s out : List ℕ) (n : ℕ) → ((i : ℕ) → getD key i 0 < 256) → ((i : ℕ) → getD tweak i 0 < 256) → decodedOf s out ≡ Bytes n
-    → requested c (hex key ∷ hex tweak ∷ split 32 s) ≡ commanded c key tweak (unhex s)
+pub data-read : (c : ℕ) (key tweak s out left : List ℕ) (a : Decoded) (n : ℕ) → ((i : ℕ) → getD key i 0 < 256) → ((i : ℕ) → getD tweak i 0 < 256)
+    → a ≡ decodedOf s out → a ≡ Bytes n → left ≡ leftBy a s out
+    → requested c (hex key ∷ hex tweak ∷ split 32 s) ≡ commanded c key tweak (take (n - 0) left)
 unfolding requested
-data-read c key tweak s out n k t e =
-    let d = decoded-is s out n e in
-    rw (split-digits 32 s space (even-digits s (d .0) .1), isHex-hex key k, isHex-hex tweak t, d .0, unhex-hex key k, unhex-hex tweak t) refl
+data-read c key tweak s out left a n k t e told l =
+    let d = decoded-is s out n (sym e ∙ told) in
+    rw (split-digits 32 s space (even-digits s (d .0) .1), isHex-hex key k, isHex-hex tweak t, d .0, unhex-hex key k, unhex-hex tweak t, lent s out left a n told (d .1) l) refl
 
 -- ---- the whole line
 

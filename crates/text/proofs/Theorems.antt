@@ -1,7 +1,7 @@
 -- Every theorem of specs/Theorems.antt, from the laws beside this file.
 -- Assumes nothing.
 use Rattle.text.specs.Theorems.{Theorems}
-use Rattle.text.proofs.Digits.{unhex-hex, isHex-hex, hex-unhex, split-digits}
+use Rattle.text.proofs.Digits.{unhex-hex, isHex-hex, hex-unhex}
 use Rattle.text.proofs.Parts.{appended-twice, count-twice}
 
 pub theorems : Theorems
@@ -9,7 +9,6 @@ theorems = record {
   bytes-back = unhex-hex;
   digits-of-bytes = isHex-hex;
   text-back = hex-unhex;
-  digits-uncut = split-digits;
   append-bytes = appended-twice;
   append-count = count-twice;
 }

@@ -6,7 +6,7 @@ use native.Mathlib.Omega.{arith}
 use denote.Ref.{now}
 use Rattle.text.proofs.Digits.{decoded-is}
 use Rattle.line.specs.Line.{replyTo}
-use Rattle.line.proofs.Requests.{decoded-part, data-refused, data-read}
+use Rattle.line.proofs.Requests.{data-refused, data-read}
 use Rattle.line.proofs.answering.read_data.Statement.{statement}
 use Rattle.line.proofs.answering.read_data.Tie as tie
 
@@ -55,11 +55,11 @@ returns-2 c =
     let decoded = told .before .before .before .before in
     let known = decoded .before .before in
     let args = known .before .before .before .args in
-    let n = told .before .n .given .0 .0 in
-    let is = sym (decoded .decode .ensures .0) ∙ told .before .n .given .1 in
-    let part = decoded-part (now (args .digits)) _ _ (decoded .decode .result) n (told .before .n .given .1) (decoded-is (now (args .digits)) _ n is .1) (decoded .decode .ensures .1) in
-    rw (data-read (args .command) (now (args .key)) (now (args .tweak)) (now (args .digits)) _ n (λ i. known .before .before .shared-slice-known .given i .fits) (λ i. known .before .shared-slice-known2 .given i .fits) is)
-    (rw part at (ran .run .ensures))
+    rw
+    (data-read (args .command) (now (args .key)) (now (args .tweak)) (now (args .digits)) _ _ (decoded .decode .result) (told .before .n .given .0 .0)
+    (λ i. known .before .before .shared-slice-known .given i .fits) (λ i. known .before .shared-slice-known2 .given i .fits)
+    (decoded .decode .ensures .0) (told .before .n .given .1) (decoded .decode .ensures .1))
+    (ran .run .ensures)
 
 pub read-data-spec : {M : Type 1} → statement M
 read-data-spec =

@@ -3,15 +3,14 @@
 use borrow.Author.Needs.{needs}
 use mathlib.Core.Path.{_≡_, sym, _∙_}
 use mathlib.Core.List.{[]}
-use Prim.Native.Nat.{_+_, _*_, _/_, _≤_, _<_}
+use Prim.Native.Nat.{_*_, _≤_, _<_}
 use native.Mathlib.Omega.{arith}
 use lib.ListN.{length}
 use denote.Ref.{now}
 use Rattle.text.specs.Part.{before}
 use Rattle.text.proofs.Digits.{field-is}
-use Rattle.blocks.proofs.Place.{part-behind}
 use Rattle.line.specs.Line.{replyTo}
-use Rattle.line.proofs.Requests.{decoded-part, field-refused, field-read}
+use Rattle.line.proofs.Requests.{field-refused, field-read}
 use Rattle.line.proofs.answering.read_key.Statement.{statement}
 use Rattle.line.proofs.answering.read_key.Tie as tie
 
@@ -81,12 +80,8 @@ returns-2 c =
     let told = c .before .before .before .before .before in
     let decoded = told .before .before .before .before in
     let args = decoded .before .before .before .args in
-    let fields = now (args .fields) in
-    let n = told .before .n .given .0 .0 in
-    let is = sym (decoded .decode-field .ensures .0) ∙ told .before .n .given .1 in
-    let half : n ≡ length (before 32 fields) / 2 = omega (arith, told-field told) in
-    let part = decoded-part (before 32 fields) _ _ (decoded .decode-field .result) n (told .before .n .given .1) half (decoded .decode-field .ensures .1) in
-    rw (field-read fields _ n is) (rw (part, part-behind (2 * n + 1) fields) at (c .read-tweak .ensures))
+    rw (field-read (now (args .fields)) _ _ (decoded .decode-field .result) (told .before .n .given .0 .0) (decoded .decode-field .ensures .0) (told .before .n .given .1) (decoded .decode-field .ensures .1))
+    (c .read-tweak .ensures)
 
 pub read-key-spec : {M : Type 1} → statement M
 read-key-spec =
