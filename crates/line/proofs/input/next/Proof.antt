@@ -9,7 +9,8 @@ use lib.ListN.{length, take}
 use denote.Ref.{now}
 use Rattle.text.specs.Part.{before}
 use Rattle.text.proofs.Parts.{before-le, before-take}
-use Rattle.line.specs.Input.{endsIn, usedBy, keptLine, keptCount, countAfter, answerAfter}
+use Rattle.line.specs.Line.{Written}
+use Rattle.line.specs.Input.{keptAnswer, endsIn, usedBy, keptLine, keptCount, countAfter, answerAfter}
 use Rattle.line.proofs.input.next.Statement.{statement}
 use Rattle.line.proofs.input.next.Tie as tie
 
@@ -56,7 +57,9 @@ returns c =
     let ends = lt-ltb (length (before 10 rest)) (length rest) (rw place at (ended .if1 .taken)) in
     let kept = rw (lent appended) at (appended .append .ensures .0) in
     let line = rw (lent appended) at (appended .append .ensures .1) in
-    (rw ends (omega (arith, place)), (rw ends, (line, rw ends (rw (line, kept) at (c .answer-kept .ensures)))))
+    let answered : Written (keptAnswer (appended .append .last .0) (appended .append .result)) (c .answer-kept .result) (now (args .out)) (c .answer-kept .last .1 .1 .0) =
+    c .answer-kept .ensures in
+    (rw ends (omega (arith, place)), (rw ends, (line, rw ends (rw (line, kept) at answered))))
 
 returns-2 : tie.Need-returns-2
 unfolding endsIn usedBy keptLine keptCount countAfter answerAfter
