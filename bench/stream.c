@@ -13,7 +13,7 @@
 typedef uint32_t call(const uint8_t *key, size_t key_length, const uint8_t *tweak, size_t tweak_length, uint8_t *data, size_t length);
 call bench_hch_encipher, bench_hch_decipher;
 
-enum { TURNS = 12, LINES = 300, BOARD = 4096 };
+enum { TURNS = 40, LINES = 200, BOARD = 4096 };
 
 static uint8_t boards[LINES][BOARD], results[LINES][BOARD];
 static const uint8_t key[16] = {0x2b, 0x7e, 0x15, 0x16, 0x28, 0xae, 0xd2, 0xa6, 0xab, 0xf7, 0x15, 0x88, 0x09, 0xcf, 0x4f, 0x3c};
@@ -25,29 +25,46 @@ static double now(void) {
     return (double)t.tv_sec + (double)t.tv_nsec * 1e-9;
 }
 
-static void put_hex(FILE *f, const uint8_t *bytes, size_t n) {
-    for (size_t i = 0; i < n; i++) fprintf(f, "%02x", bytes[i]);
+static char *put_hex(char *at, const uint8_t *bytes, size_t n) {
+    static const char digits[] = "0123456789abcdef";
+    for (size_t i = 0; i < n; i++) {
+        *at++ = digits[bytes[i] / 16];
+        *at++ = digits[bytes[i] % 16];
+    }
+    return at;
 }
 
+static void need(int ok, const char *what) {
+    if (ok) return;
+    printf("%s\n", what);
+    exit(1);
+}
+
+/* The lines of all boards, as a file. */
 static FILE *lines(char command) {
+    static char line[2 * BOARD + 69];
     FILE *f = tmpfile();
-    if (!f) exit(1);
+    need(f != NULL, "no temporary file");
     for (int i = 0; i < LINES; i++) {
-        fprintf(f, "%c ", command);
-        put_hex(f, key, 16);
-        putc(' ', f);
-        put_hex(f, tweak, 16);
-        putc(' ', f);
-        put_hex(f, boards[i], BOARD);
-        putc('\n', f);
+        char *at = line;
+        *at++ = command;
+        *at++ = ' ';
+        at = put_hex(at, key, 16);
+        *at++ = ' ';
+        at = put_hex(at, tweak, 16);
+        *at++ = ' ';
+        at = put_hex(at, boards[i], BOARD);
+        *at++ = '\n';
+        fwrite(line, 1, (size_t)(at - line), f);
     }
-    fflush(f);
+    need(fflush(f) == 0, "the lines were not written");
     return f;
 }
 
 static double run_program(const char *program, FILE *in, FILE *out) {
     rewind(in);
     rewind(out);
+    need(ftruncate(fileno(out), 0) == 0, "the output was not emptied");
     double start = now();
     pid_t child = fork();
     if (child == 0) {
@@ -57,10 +74,7 @@ static double run_program(const char *program, FILE *in, FILE *out) {
         _exit(127);
     }
     int status = 0;
-    if (child < 0 || waitpid(child, &status, 0) < 0 || status != 0) {
-        printf("%s did not run\n", program);
-        exit(1);
-    }
+    need(child > 0 && waitpid(child, &status, 0) == child && status == 0, "the program did not run");
     return now() - start;
 }
 
@@ -71,51 +85,39 @@ static double run_library(call *work) {
     return now() - start;
 }
 
-/* Whether the program wrote the library's results. */
+/* Whether the program wrote the library's results, and nothing else. */
 static int same(FILE *out) {
-    FILE *wanted = tmpfile();
-    if (!wanted) return 0;
-    for (int i = 0; i < LINES; i++) {
-        put_hex(wanted, results[i], BOARD);
-        putc('\n', wanted);
-    }
-    rewind(wanted);
+    static char wanted[2 * BOARD + 1], got[2 * BOARD + 1];
     rewind(out);
-    int a, b;
-    do {
-        a = getc(wanted);
-        b = getc(out);
-    } while (a == b && a != EOF);
-    fclose(wanted);
-    return a == b;
+    for (int i = 0; i < LINES; i++) {
+        *put_hex(wanted, results[i], BOARD) = '\n';
+        if (fread(got, 1, sizeof got, out) != sizeof got || memcmp(got, wanted, sizeof got) != 0) return 0;
+    }
+    return getc(out) == EOF;
 }
 
-static int compare(const char *program, const char *name, char command, call *work) {
+static void compare(const char *program, const char *name, char command, call *work) {
     FILE *in = lines(command), *out = tmpfile();
-    if (!out) return 0;
+    need(out != NULL, "no temporary file");
     double best_program = 1e9, best_library = 1e9;
     for (int turn = 0; turn < TURNS; turn++) {
         double p = run_program(program, in, out), l = run_library(work);
+        need(same(out), "the program and the library differ");
         if (p < best_program) best_program = p;
         if (l < best_library) best_library = l;
     }
-    int equal = same(out);
-    if (equal)
-        printf("boardline, %s boards of 4,096 bytes: %.1f us a line, the library %.1f us, of its speed %.2f\n", name, best_program / LINES * 1e6,
-               best_library / LINES * 1e6, best_library / best_program);
-    else
-        printf("boardline, %s: the two differ\n", name);
+    printf("boardline, %s boards of 4,096 bytes: %.1f us a line, the library %.1f us, of its speed %.2f\n", name, best_program / LINES * 1e6,
+           best_library / LINES * 1e6, best_library / best_program);
     fclose(in);
     fclose(out);
-    return equal;
 }
 
 int main(int argc, char **argv) {
-    if (argc != 2) return 2;
+    need(argc == 2, "usage: stream PROGRAM");
     uint32_t x = 1;
     for (int i = 0; i < LINES; i++)
         for (int j = 0; j < BOARD; j++) boards[i][j] = (uint8_t)((x = x * 1664525 + 1013904223) >> 24);
-    int equal = compare(argv[1], "enciphering", 'E', bench_hch_encipher);
-    equal &= compare(argv[1], "deciphering", 'D', bench_hch_decipher);
-    return equal ? 0 : 1;
+    compare(argv[1], "enciphering", 'E', bench_hch_encipher);
+    compare(argv[1], "deciphering", 'D', bench_hch_decipher);
+    return 0;
 }

@@ -1,13 +1,14 @@
--- Computed.
+-- 01's case of `boardline` holds of the definitions, by computation.
+-- Assumes nothing.
 use mathlib.Core.Path.{refl}
 use mathlib.Core.List.{flatMap}
 use Rattle.text.specs.Hex.{digit, isDigit, value, hex, allDigits, isHex, unhex}
 use Rattle.text.specs.Part.{splitFrom}
 use Rattle.hch.specs.Call.{answerOf}
-use Rattle.line.specs.Line.{commanded, requested, spelled, requestOf, decimal, refusal, reply, replyTo, answer}
+use Rattle.line.specs.Line.{commanded, requested, requestOf, decimal, refusal, reply, replyTo, answer}
 use Rattle.line.specs.Input.{linesOf, answers}
 use Rattle.examples.specs.Program.{Program}
 
 pub program : Program
-unfolding flatMap digit isDigit value hex allDigits isHex unhex splitFrom answerOf commanded requested spelled requestOf decimal refusal reply replyTo answer linesOf answers
-program = record { whole-case = refl; no-9 = refl }
+unfolding flatMap digit isDigit value hex allDigits isHex unhex splitFrom answerOf commanded requested requestOf decimal refusal reply replyTo answer linesOf answers
+program = record { whole-case = refl }

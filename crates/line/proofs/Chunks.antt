@@ -4,7 +4,6 @@ use mathlib.Core.Path.{_≡_, refl, sym, ap, _∙_}
 use mathlib.Core.Bool.{Bool, true, false, cond}
 use mathlib.Core.List.{List, [], _∷_, _++_, flatMap, append-nil, append-assoc}
 use Prim.Native.Nat.{ℕ, zero, suc, _+_, _≤_, _<_, min}
-use native.Mathlib.Nat.{not-suc-le-zero}
 use native.Mathlib.Omega.{arith}
 use lib.ListN.{length, take, length-append}
 use lib.Seq.{take-length}
@@ -126,15 +125,15 @@ unfolding splitFrom
 at-end {input} k = rw (append-nil input) at (k .parts [])
 
 -- The last line is answered unless it has no character: then a line feed was the last, or there was no input.
-last-some : (line : List ℕ) (count : ℕ) → 0 < count → lastAnswer line count ≡ keptAnswer line count
+pub last-some : (line : List ℕ) (count : ℕ) → (count ≡ 0 → ⊥) → lastAnswer line count ≡ keptAnswer line count
 unfolding lastAnswer
-last-some line zero h = absurd (not-suc-le-zero h)
-last-some line (suc count) h = refl
+last-some line zero n = absurd (n refl)
+last-some line (suc count) n = refl
 
 last-answer : (u : List ℕ) {line : List ℕ} {count : ℕ} → Held u line count → lastAnswer line count ≡ flatMap answer (linesOf (u ∷ []))
 unfolding flatMap linesOf lastAnswer
 last-answer [] h = rw (h .counted)
-last-answer (x ∷ xs) {line} {count} h = rw (last-some line count (omega arith), held-answer h, append-nil)
+last-answer (x ∷ xs) {line} {count} h = rw (last-some line count (λ z. omega (arith, h .counted)), held-answer h, append-nil)
 
 pub in-chunks : {line₀ input written line : List ℕ} {count : ℕ} → length line₀ ≡ 8300 → Run line₀ input written line count
     → (written ≡ answersSoFar input) × (written ++ lastAnswer line count ≡ answers input)

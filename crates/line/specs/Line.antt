@@ -17,27 +17,25 @@ pub data Request : Type 0 where
   Unknown : Request
 
 -- `E` enciphers and `D` deciphers; there is no other command.
-unfoldable pub commanded : ℕ → (key tweak message : List ℕ) → Request
-commanded c key tweak message = cond (eqb c 69) (Encipher key tweak message) (cond (eqb c 68) (Decipher key tweak message) Unknown)
+unfoldable pub commanded : (command key tweak message : List ℕ) → Request
+commanded [] key tweak message = Unknown
+commanded (c ∷ []) key tweak message = cond (eqb c 69) (Encipher key tweak message) (cond (eqb c 68) (Decipher key tweak message) Unknown)
+commanded (c ∷ d ∷ more) key tweak message = Unknown
 
--- The fields are three, "each written in lower-case hexadecimal, two digits a byte; each may be empty".
-unfoldable pub requested : ℕ → List (List ℕ) → Request
-requested c [] = Unknown
-requested c (key ∷ []) = Unknown
-requested c (key ∷ tweak ∷ []) = Unknown
-requested c (key ∷ tweak ∷ message ∷ []) =
-    cond (isHex key && isHex tweak && isHex message) (commanded c (unhex key) (unhex tweak) (unhex message)) Unknown
-requested c (key ∷ tweak ∷ message ∷ more ∷ rest) = Unknown
+-- "A line is `E` or `D`, a space, the key, a space, the tweak, a space, the data, each written in lower-case hexadecimal, two digits a byte; each may
+-- be empty": four fields.
+unfoldable pub requested : List (List ℕ) → Request
+requested [] = Unknown
+requested (command ∷ []) = Unknown
+requested (command ∷ key ∷ []) = Unknown
+requested (command ∷ key ∷ tweak ∷ []) = Unknown
+requested (command ∷ key ∷ tweak ∷ message ∷ []) =
+    cond (isHex key && isHex tweak && isHex message) (commanded command (unhex key) (unhex tweak) (unhex message)) Unknown
+requested (command ∷ key ∷ tweak ∷ message ∷ more ∷ rest) = Unknown
 
--- "A line is `E` or `D`, a space, the key, a space, the tweak, a space, the data": behind the first space the fields stand between spaces.
-unfoldable pub spelled : List ℕ → Request
-spelled [] = Unknown
-spelled (c ∷ []) = Unknown
-spelled (c ∷ d ∷ rest) = cond (eqb d 32) (requested c (split 32 rest)) Unknown
-
--- "It is at most 8,300 characters before its line feed. All else, an empty line too, is number 9."
+-- "It is at most 8,300 characters before its line feed. All else, an empty line too, is number 9." The fields stand between the spaces.
 unfoldable pub requestOf : List ℕ → Request
-requestOf line = cond (leb (length line) 8300) (spelled line) Unknown
+requestOf line = cond (leb (length line) 8300) (requested (split 32 line)) Unknown
 
 -- A number below 100 in decimal.
 unfoldable pub decimal : ℕ → List ℕ

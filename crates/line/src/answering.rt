@@ -1,7 +1,7 @@
 // One line and its answer.
 ghost use Prim.Native.Nat.{_≤_, _<_};
 ghost use mathlib.Core.Path.{_≡_};
-ghost use mathlib.Core.List.{_∷_};
+ghost use mathlib.Core.List.{[], _∷_};
 ghost use lib.ListN.{length};
 ghost use Rattle.text.specs.Hex.{hex};
 ghost use Rattle.text.specs.Part.{split};
@@ -36,7 +36,7 @@ pub fn answer(line: &[u8], out: &mut [u8; ROOM]) -> usize
 // Reads the key, and goes on with the fields behind it.
 fn read_key(command: u8, fields: &[u8], out: &mut [u8; ROOM]) -> usize
     requires { ⌜ length (now fields) ≤ 8300 ⌝ }
-    ensures { λ r. ⌜ Written (replyTo (requested command (split 32 (now (fields .entry))))) r (now (out .entry)) (now (out .exit)) ⌝ }
+    ensures { λ r. ⌜ Written (replyTo (requested ((command ∷ []) ∷ split 32 (now (fields .entry))))) r (now (out .entry)) (now (out .exit)) ⌝ }
 {
     let mut key = [0u8; BYTES];
     let Decoded::Bytes(n) = text::hex::decode_field(fields, b' ', &mut key) else {
@@ -48,7 +48,7 @@ fn read_key(command: u8, fields: &[u8], out: &mut [u8; ROOM]) -> usize
 // Reads the tweak, and goes on with the field behind it.
 fn read_tweak(command: u8, key: &[u8], fields: &[u8], out: &mut [u8; ROOM]) -> usize
     requires { ⌜ length (now fields) ≤ 8300 ⌝ }
-    ensures { λ r. ⌜ Written (replyTo (requested command (hex (now (key .entry)) ∷ split 32 (now (fields .entry))))) r (now (out .entry)) (now (out .exit)) ⌝ }
+    ensures { λ r. ⌜ Written (replyTo (requested ((command ∷ []) ∷ hex (now (key .entry)) ∷ split 32 (now (fields .entry))))) r (now (out .entry)) (now (out .exit)) ⌝ }
 {
     let mut tweak = [0u8; BYTES];
     let Decoded::Bytes(n) = text::hex::decode_field(fields, b' ', &mut tweak) else {
@@ -60,7 +60,7 @@ fn read_tweak(command: u8, key: &[u8], fields: &[u8], out: &mut [u8; ROOM]) -> u
 // Reads the data, which ends with the line: a space is no digit, so a fourth field is refused here.
 fn read_data(command: u8, key: &[u8], tweak: &[u8], digits: &[u8], out: &mut [u8; ROOM]) -> usize
     requires { ⌜ length (now digits) ≤ 8300 ⌝ }
-    ensures { λ r. ⌜ Written (replyTo (requested command (hex (now (key .entry)) ∷ hex (now (tweak .entry)) ∷ split 32 (now (digits .entry))))) r (now (out .entry)) (now (out .exit)) ⌝ }
+    ensures { λ r. ⌜ Written (replyTo (requested ((command ∷ []) ∷ hex (now (key .entry)) ∷ hex (now (tweak .entry)) ∷ split 32 (now (digits .entry))))) r (now (out .entry)) (now (out .exit)) ⌝ }
 {
     let mut data = [0u8; BYTES];
     let Decoded::Bytes(n) = text::hex::decode(digits, &mut data) else {
@@ -71,7 +71,7 @@ fn read_data(command: u8, key: &[u8], tweak: &[u8], digits: &[u8], out: &mut [u8
 
 // Enciphers or deciphers the data, and answers what the call answered.
 fn run(command: u8, key: &[u8], tweak: &[u8], data: &mut [u8], out: &mut [u8; ROOM]) -> usize
-    ensures { λ r. ⌜ Written (replyTo (commanded command (now (key .entry)) (now (tweak .entry)) (now («data» .entry)))) r (now (out .entry)) (now (out .exit)) ⌝ }
+    ensures { λ r. ⌜ Written (replyTo (commanded (command ∷ []) (now (key .entry)) (now (tweak .entry)) (now («data» .entry)))) r (now (out .entry)) (now (out .exit)) ⌝ }
 {
     if command == b'E' {
         let answer = hch::encipher(key, tweak, data);

@@ -1,10 +1,10 @@
--- The tests are those of `requestOf` and `spelled`; the fields stand behind the first space.
+-- The tests are those of `requestOf`; the fields stand behind the first space.
 -- Assumes nothing.
 use borrow.Author.Needs.{needs}
 use denote.Ref.{now}
 use Rattle.blocks.proofs.Place.{part-behind}
 use Rattle.line.specs.Line.{replyTo}
-use Rattle.line.proofs.Requests.{line-short, line-other, line-fields, answer-long, answer-spelled}
+use Rattle.line.proofs.Requests.{line-short, line-other, line-fields, answer-long, answer-fields}
 use Rattle.line.proofs.answering.answer.Statement.{statement}
 use Rattle.line.proofs.answering.answer.Tie as tie
 
@@ -24,7 +24,7 @@ unfolding replyTo
 returns-2 c =
     let short = c .before .before in
     let line = now (short .before .before .before .args .line) in
-    rw (answer-spelled line (short .before .if1 .left), line-short line (short .if2 .taken)) (c .refuse2 .ensures)
+    rw (answer-fields line (short .before .if1 .left), line-short line (short .if2 .taken)) (c .refuse2 .ensures)
 
 shared-slice-read-if3 : tie.Need-shared-slice-read-if3
 shared-slice-read-if3 c = search needs
@@ -38,7 +38,7 @@ returns-3 c =
     let other = c .before .before in
     let long = other .before .before in
     let line = now (long .before .before .before .args .line) in
-    rw (answer-spelled line (long .before .if1 .left), line-other line (long .if2 .left) (other .if3 .taken)) (c .refuse3 .ensures)
+    rw (answer-fields line (long .before .if1 .left), line-other line (long .if2 .left) (other .if3 .taken)) (c .refuse3 .ensures)
 
 shared-slice-read-read-key : tie.Need-shared-slice-read-read-key
 shared-slice-read-read-key c = search needs
@@ -60,7 +60,7 @@ returns-4 c =
     let spaced = c .before .before .before .before in
     let long = spaced .before .before in
     let line = now (long .before .before .before .args .line) in
-    rw (answer-spelled line (long .before .if1 .left), line-fields line (long .if2 .left) (spaced .if3 .left))
+    rw (answer-fields line (long .before .if1 .left), line-fields line (long .if2 .left) (spaced .if3 .left))
     (rw (part-behind 2 line) at (c .read-key .ensures))
 
 pub answer-spec : {M : Type 1} → statement M

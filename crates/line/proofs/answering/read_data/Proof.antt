@@ -2,6 +2,7 @@
 -- Assumes nothing.
 use borrow.Author.Needs.{needs}
 use mathlib.Core.Path.{sym, _∙_}
+use mathlib.Core.List.{[], _∷_}
 use native.Mathlib.Omega.{arith}
 use denote.Ref.{now}
 use Rattle.text.proofs.Digits.{decoded-is}
@@ -31,7 +32,7 @@ returns c =
     let told = c .before .before in
     let decoded = told .before .before .before in
     let args = decoded .before .before .before .before .before .args in
-    rw (data-refused (args .command) _ _ (now (args .digits)) _ (sym (decoded .decode .ensures .0) ∙ told .enum-told .given .1) (omega arith)) (c .refuse .ensures)
+    rw (data-refused (args .command ∷ []) _ _ (now (args .digits)) _ (sym (decoded .decode .ensures .0) ∙ told .enum-told .given .1) (omega arith)) (c .refuse .ensures)
 
 sub-run : tie.Need-sub-run
 sub-run c = search needs
@@ -56,7 +57,7 @@ returns-2 c =
     let known = decoded .before .before in
     let args = known .before .before .before .args in
     rw
-    (data-read (args .command) (now (args .key)) (now (args .tweak)) (now (args .digits)) _ _ (decoded .decode .result) (told .before .n .given .0 .0)
+    (data-read (args .command ∷ []) (now (args .key)) (now (args .tweak)) (now (args .digits)) _ _ (decoded .decode .result) (told .before .n .given .0 .0)
     (λ i. known .before .before .shared-slice-known .given i .fits) (λ i. known .before .shared-slice-known2 .given i .fits)
     (decoded .decode .ensures .0) (told .before .n .given .1) (decoded .decode .ensures .1))
     (ran .run .ensures)

@@ -2,7 +2,7 @@
 -- Assumes nothing.
 use borrow.Author.Needs.{needs}
 use mathlib.Core.Path.{_≡_, sym, _∙_}
-use mathlib.Core.List.{[]}
+use mathlib.Core.List.{[], _∷_}
 use Prim.Native.Nat.{_*_, _≤_, _<_}
 use native.Mathlib.Omega.{arith}
 use lib.ListN.{length}
@@ -35,7 +35,7 @@ returns c =
     let told = c .before .before in
     let decoded = told .before .before .before in
     let args = decoded .before .before .before .args in
-    rw (field-refused (args .command) ([]) (now (args .fields)) _ (omega arith) (sym (decoded .decode-field .ensures .0) ∙ told .enum-told .given .1) (omega arith)) (c .refuse .ensures)
+    rw (field-refused (args .command ∷ []) ([]) (now (args .fields)) _ (omega arith) (sym (decoded .decode-field .ensures .0) ∙ told .enum-told .given .1) (omega arith)) (c .refuse .ensures)
 
 -- what the answer tells of the field in front of the space
 told-field : (c : tie.After-known-told)

@@ -36,7 +36,7 @@ returns c =
     let told = c .before .before in
     let decoded = told .before .before .before in
     let args = decoded .before .before .before .before .args in
-    rw (field-refused (args .command) (hex (now (args .key)) ∷ []) (now (args .fields)) _ (omega arith) (sym (decoded .decode-field .ensures .0) ∙ told .enum-told .given .1) (omega arith)) (c .refuse .ensures)
+    rw (field-refused (args .command ∷ []) (hex (now (args .key)) ∷ []) (now (args .fields)) _ (omega arith) (sym (decoded .decode-field .ensures .0) ∙ told .enum-told .given .1) (omega arith)) (c .refuse .ensures)
 
 -- what the answer tells of the field in front of the space
 told-field : (c : tie.After-known-told)
