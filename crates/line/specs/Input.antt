@@ -7,8 +7,8 @@ use lib.ListN.{length, take}
 use Rattle.text.specs.Part.{before, split, appended}
 use Rattle.line.specs.Line.{refusal, answer}
 
--- The lines among the parts of an input between its line feeds. Behind the last line feed stands a line that lacks its own, and "after a final
--- line feed no further line follows".
+-- The lines among the parts of an input between its line feeds. What stands behind the last line feed is a line too, which lacks its own, but "after a
+-- final line feed no further line follows".
 unfoldable pub linesOf : List (List ℕ) → List (List ℕ)
 linesOf [] = []
 linesOf ([] ∷ []) = []
@@ -29,9 +29,9 @@ answers input = flatMap answer (linesOf (split 10 input))
 unfoldable pub answersSoFar : List ℕ → List ℕ
 answersSoFar input = flatMap answer (endedOf (split 10 input))
 
--- ---- in chunks. What is kept of the line under way is its first characters, in `line`, and their number, `count`; one more than `line` has room
--- for says that the line is longer than that. A call is lent `rest`, what is left of a chunk, and goes on with the line up to its line feed, or
--- up to the end of the chunk.
+-- ---- in chunks: what the contracts of `next` and `last` cite. That it comes to `answers` is the theorem `in-chunks`. What is kept of the line under
+-- way is its first characters, in `line`, and their number, `count`; one more than `line` has room for says that the line is longer than that. A call
+-- is lent `rest`, what is left of a chunk, and goes on with the line up to its line feed, or up to the end of the chunk.
 
 -- Whether the line ends in the chunk.
 unfoldable pub endsIn : List ℕ → Bool

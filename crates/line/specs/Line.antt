@@ -56,11 +56,11 @@ replyTo (Encipher key tweak message) = reply (numberOf (answerOf key tweak messa
 replyTo (Decipher key tweak message) = reply (numberOf (answerOf key tweak message)) (deciphered key tweak message)
 replyTo Unknown = refusal 9
 
--- The answer to a line of any content and length, without its own line feed.
+-- The answer, with its line feed, to a line of any content and length, which is taken without its own.
 unfoldable pub answer : List ℕ → List ℕ
 answer line = replyTo (requestOf line)
 
--- What a function that writes an answer promises: how many bytes it wrote, and that they stand in front of what `out` had behind them.
+-- What a function that writes an answer promises: how many bytes it wrote, and what is then left in `out`, those bytes and behind them what stood there.
 pub record Written (bytes : List ℕ) (count : ℕ) (out left : List ℕ) : Type 0 where
   pub counted : count ≡ length bytes
   pub written : left ≡ bytes ++ drop (length bytes) out

@@ -1,6 +1,5 @@
 // The lines of an input that arrives in chunks. What is kept from chunk to chunk is the line under
 // way: its first `count` characters in `line`, where LONGEST + 1 says that it is longer.
-ghost use Prim.Native.Nat.{_<_};
 ghost use mathlib.Core.Path.{_≡_};
 ghost use Rattle.line.specs.Line.{Written};
 ghost use Rattle.line.specs.Input.{usedBy, keptLine, countAfter, keptAnswer, answerAfter, lastAnswer};
