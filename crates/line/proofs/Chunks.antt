@@ -15,6 +15,7 @@ use Rattle.line.specs.Line.{answer}
 use Rattle.line.specs.Input.{linesOf, endedOf, answers, answersSoFar, endsIn, usedBy, keptLine, keptCount, countAfter, keptAnswer, answerAfter, lastAnswer}
 use Rattle.line.specs.Input.{Run, begin, call}
 use Rattle.line.proofs.Requests.{answer-long}
+use Rattle.line.proofs.Written.{written-bytes}
 
 -- ---- a line u, of any length, as it is kept
 
@@ -117,7 +118,7 @@ step false {input} {written} {line} {count} rest e k =
 kept : {line₀ input written line : List ℕ} {count : ℕ} → length line₀ ≡ 8300 → Run line₀ input written line count → Kept input written line count
 unfolding usedBy countAfter answerAfter flatMap
 kept {line₀} h begin = record { done = []; under = []; parts = λ z. refl; told = refl; held = held-none line₀ h }
-kept h (call r rest) = step (endsIn rest) rest refl (kept h r)
+kept h (call {rest = rest} r s) = rw (s .used, s .counted, s .kept, written-bytes (s .answered)) (step (endsIn rest) rest refl (kept h r))
 
 -- nothing follows
 at-end : {input written line : List ℕ} {count : ℕ} (k : Kept input written line count) → split 10 input ≡ k .done ++ k .under ∷ []

@@ -6,8 +6,8 @@ use mathlib.Core.List.{List, [], _∷_, _++_}
 use Prim.Native.Nat.{ℕ, zero, suc, _+_, _-_, _*_, _/_, _^_, _≤_, _<_, min}
 use native.Mathlib.Nat.{zero-add, not-suc-le-zero, pow-le-pow-right}
 use native.Mathlib.Omega.{arith}
-use lib.ListN.{length, drop, length-append}
-use lib.Seq.{take-all}
+use lib.ListN.{length, take, drop, length-append}
+use lib.Seq.{take-all, take-at}
 use lib.Dec.{ltb}
 use borrow.Author.Tests.{lt-ltb, le-ltb}
 use Rattle.io.specs.Digits.{digits, Fewest}
@@ -45,6 +45,10 @@ front-whole {bytes} {out} f h = record { counted = omega (arith, f .counted); wr
 -- What was written stands within what is left.
 pub written-within : {bytes out left : List ℕ} {count : ℕ} → Written bytes count out left → count ≤ length left
 written-within {bytes} {out} w = rw (w .written, w .counted, length-append bytes (drop (length bytes) out)) (omega arith)
+
+-- They are the first bytes there.
+pub written-bytes : {bytes out left : List ℕ} {count : ℕ} → Written bytes count out left → take count left ≡ bytes
+written-bytes {bytes} {out} w = rw (w .written, w .counted, take-at bytes (drop (length bytes) out))
 
 -- Nothing is at the front yet.
 pub front-none : (out : List ℕ) → Front [] 0 out out

@@ -1,11 +1,13 @@
 -- A whole input and its answers; what is kept of an input that arrives in chunks. A line feed is 10.
 use Prim.Native.Nat.{ℕ, zero, suc, _+_, min}
+use mathlib.Core.Path.{_≡_}
 use mathlib.Core.Bool.{Bool, cond}
 use mathlib.Core.List.{List, [], _∷_, _++_, flatMap}
 use lib.Dec.{ltb}
 use lib.ListN.{length, take}
 use Rattle.text.specs.Part.{before, split, appended}
-use Rattle.line.specs.Line.{refusal, answer}
+use Rattle.line.specs.Line.{refusal, answer, Written}
+use Rattle.line.specs.declared.input.Step.{Step}
 
 -- The lines among the parts of an input between its line feeds. What stands behind the last line feed is a line too, which lacks its own, but "after a
 -- final line feed no further line follows".
@@ -60,14 +62,22 @@ keptAnswer line count = cond (ltb (length line) count) (refusal 9) (answer (take
 unfoldable pub answerAfter : List ℕ → ℕ → List ℕ → List ℕ
 answerAfter line count rest = cond (endsIn rest) (keptAnswer (keptLine line count rest) (keptCount line count rest)) []
 
+-- What a call of `next` promises, by what it answers, `step`, and leaves in `line` and in `out`.
+pub record Stepped (line : List ℕ) (count : ℕ) (rest out : List ℕ) (step : Step) (line′ out′ : List ℕ) : Type 0 where
+  pub used : step .used ≡ usedBy rest
+  pub counted : step .count ≡ countAfter line count rest
+  pub kept : line′ ≡ keptLine line count rest
+  pub answered : Written (answerAfter line count rest) (step .written) out out′
+
 -- What is written at the end of the input: the answer to a last line that lacks its line feed.
 unfoldable pub lastAnswer : List ℕ → ℕ → List ℕ
 lastAnswer line zero = []
 lastAnswer line (suc count) = keptAnswer line (suc count)
 
--- A run of calls from the beginning, where `line₀` may hold any bytes: the input that they have used up, what they have written, and what is kept.
--- Each was lent any bytes at all.
+-- A run of calls of `next` from the beginning, each on any bytes at all: the input that they have used up, what they have written, and what is kept.
+-- `line₀` may hold any bytes.
 pub data Run (line₀ : List ℕ) : (input written line : List ℕ) → ℕ → Type 0 where
   begin : Run line₀ [] [] line₀ 0
-  call : {input written line : List ℕ} {count : ℕ} → Run line₀ input written line count → (rest : List ℕ)
-      → Run line₀ (input ++ take (usedBy rest) rest) (written ++ answerAfter line count rest) (keptLine line count rest) (countAfter line count rest)
+  call : {input written line rest out line′ out′ : List ℕ} {count : ℕ} {step : Step} → Run line₀ input written line count
+      → Stepped line count rest out step line′ out′
+      → Run line₀ (input ++ take (step .used) rest) (written ++ take (step .written) out′) line′ (step .count)

@@ -1,8 +1,7 @@
 // The lines of an input that arrives in chunks. What is kept from chunk to chunk is the line under
 // way: its first `count` characters in `line`, where LONGEST + 1 says that it is longer.
-ghost use mathlib.Core.Path.{_≡_};
 ghost use Rattle.line.specs.Line.{Written};
-ghost use Rattle.line.specs.Input.{usedBy, keptLine, countAfter, keptAnswer, answerAfter, lastAnswer};
+ghost use Rattle.line.specs.Input.{keptAnswer, Stepped, lastAnswer};
 use crate::LONGEST;
 use crate::ROOM;
 
@@ -17,10 +16,7 @@ pub struct Step {
 // Goes on with the line under way up to its line feed, and writes its answer to the front of `out`;
 // where `rest` has no line feed, up to the end of `rest`, and writes nothing.
 pub fn next(line: &mut [u8; LONGEST], count: usize, rest: &[u8], out: &mut [u8; ROOM]) -> Step
-    ensures { λ r. ⌜ r .used ≡ usedBy (now (rest .entry)) ⌝ }
-    ensures { λ r. ⌜ r .count ≡ countAfter (now (line .entry)) count (now (rest .entry)) ⌝ }
-    ensures { λ _. ⌜ now (line .exit) ≡ keptLine (now (line .entry)) count (now (rest .entry)) ⌝ }
-    ensures { λ r. ⌜ Written (answerAfter (now (line .entry)) count (now (rest .entry))) (r .written) (now (out .entry)) (now (out .exit)) ⌝ }
+    ensures { λ r. ⌜ Stepped (now (line .entry)) count (now (rest .entry)) (now (out .entry)) r (now (line .exit)) (now (out .exit)) ⌝ }
 {
     let end = text::part::find(rest, 0, b'\n');
     let kept = text::part::append(line, count, &rest[0..end]);

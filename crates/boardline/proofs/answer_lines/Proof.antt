@@ -28,7 +28,7 @@ uses c =
     let rest = take (length chunk - at) (drop at chunk) in
     let long : length rest ≡ length chunk - at = simp (length-take, length-drop) (omega arith) in
     let h = used rest (omega arith) in
-    rw (c .next .ensures .0) (omega (arith, h, long))
+    rw (c .next .ensures .used) (omega (arith, h, long))
 
 loop-holds : tie.Need-loop-holds Inv-loop μ-loop
 loop-holds c = omega arith
@@ -46,7 +46,7 @@ next-requires : tie.Need-next-requires Inv-loop μ-loop
 next-requires c κs = tt
 
 write-requires : tie.Need-write-requires Inv-loop μ-loop
-write-requires c κs = written-within (c .before .next .ensures .1 .1 .1)
+write-requires c κs = written-within (c .before .next .ensures .answered)
 
 returns : tie.Need-returns Inv-loop μ-loop
 returns c = tt

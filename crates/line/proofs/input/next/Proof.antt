@@ -59,7 +59,7 @@ returns c =
     let line = rw (lent appended) at (appended .append .ensures .1) in
     let answered : Written (keptAnswer (appended .append .last .0) (appended .append .result)) (c .answer-kept .result) (now (args .out)) (c .answer-kept .last .1 .1 .0) =
     c .answer-kept .ensures in
-    (rw ends (omega (arith, place)), (rw ends, (line, rw ends (rw (line, kept) at answered))))
+    record { used = rw ends (omega (arith, place)); counted = rw ends; kept = line; answered = rw ends (rw (line, kept) at answered) }
 
 returns-2 : tie.Need-returns-2
 unfolding endsIn usedBy keptLine keptCount countAfter answerAfter
@@ -72,7 +72,12 @@ returns-2 c =
     let ends = le-ltb (length (before 10 rest)) (length rest) (rw place at (c .if1 .left)) in
     let kept = rw (lent appended) at (appended .append .ensures .0) in
     let line = rw (lent appended) at (appended .append .ensures .1) in
-    (rw ends (omega (arith, place, before-le 10 rest)), (rw ends kept, (line, rw ends (record { counted = refl; written = refl }))))
+    record {
+      used = rw ends (omega (arith, place, before-le 10 rest));
+      counted = rw ends kept;
+      kept = line;
+      answered = rw ends (record { counted = refl; written = refl });
+    }
 
 pub next-spec : {M : Type 1} → statement M
 next-spec =
