@@ -13,7 +13,7 @@
 typedef uint32_t call(const uint8_t *key, size_t key_length, const uint8_t *tweak, size_t tweak_length, uint8_t *data, size_t length);
 call bench_hch_encipher, bench_hch_decipher;
 
-enum { TURNS = 40, LINES = 200, BOARD = 4096 };
+enum { TURNS = 20, LINES = 600, BOARD = 4096 };
 
 static uint8_t boards[LINES][BOARD], results[LINES][BOARD];
 static const uint8_t key[16] = {0x2b, 0x7e, 0x15, 0x16, 0x28, 0xae, 0xd2, 0xa6, 0xab, 0xf7, 0x15, 0x88, 0x09, 0xcf, 0x4f, 0x3c};
