@@ -3,17 +3,14 @@
 #define _POSIX_C_SOURCE 199309L
 #include "aes.h"
 #include "hch.h"
+#include <boards.h>
 #include <stdio.h>
+#include <stdlib.h>
 #include <string.h>
 #include <time.h>
 
-/* From the archive of crates/bench. A slice is a pointer and a length. */
+/* From the archive of crates/bench, for boards.h has no call on a single block. A slice is a pointer and a length. */
 void bench_aes_encipher(const uint32_t words[44], uint8_t *data, size_t length);
-uint32_t bench_hch_encipher(const uint8_t *key, size_t key_length, const uint8_t *tweak, size_t tweak_length, uint8_t *data, size_t length);
-uint32_t bench_hch_decipher(const uint8_t *key, size_t key_length, const uint8_t *tweak, size_t tweak_length, uint8_t *data, size_t length);
-uint32_t bench_seal(const uint8_t *key, size_t key_length, const uint8_t *payload, size_t payload_length, uint64_t pack, uint32_t place,
-                    uint8_t *block, size_t length);
-uint32_t bench_open(const uint8_t *key, size_t key_length, uint64_t pack, uint32_t place, uint8_t *block, size_t length);
 
 enum { TURNS = 40, BLOCKS = 20000, BYTES = 40000 };
 
@@ -24,14 +21,21 @@ static uint32_t w[44];
 /* What is measured: both sides do the same work on the bytes that they are lent. */
 typedef void work(uint8_t *data, size_t length);
 
+/* Every call that is measured is one that is done. */
+static void done(uint32_t answer) {
+    if (answer == BOARDS_DONE) return;
+    printf("a call was not done: %s\n", boards_reason(answer));
+    exit(1);
+}
+
 static void library_aes(uint8_t *data, size_t length) { bench_aes_encipher(w, data, length); }
 static void plain_aes(uint8_t *data, size_t length) {
     (void)length;
     plain_aes_encipher(w, data);
 }
-static void library_encipher(uint8_t *data, size_t length) { bench_hch_encipher(key, 16, tweak, 16, data, length); }
+static void library_encipher(uint8_t *data, size_t length) { done(boards_encipher(key, 16, tweak, 16, data, length)); }
 static void plain_encipher(uint8_t *data, size_t length) { plain_hch_encipher(key, tweak, data, length); }
-static void library_decipher(uint8_t *data, size_t length) { bench_hch_decipher(key, 16, tweak, 16, data, length); }
+static void library_decipher(uint8_t *data, size_t length) { done(boards_decipher(key, 16, tweak, 16, data, length)); }
 static void plain_decipher(uint8_t *data, size_t length) { plain_hch_decipher(key, tweak, data, length); }
 
 /* The 512-byte block for pack 1, place 258, beside HCH alone on what is enciphered or deciphered. Its tweak is 01's P12. */
@@ -49,20 +53,20 @@ static void prepare(size_t u) {
     plain_block[508] = (uint8_t)(u >> 8);
     plain_block[509] = (uint8_t)u;
     memcpy(sealed_block, plain_block, 512);
-    bench_hch_encipher(key, 16, block_tweak, 16, sealed_block, 512);
+    done(boards_encipher(key, 16, block_tweak, 16, sealed_block, 512));
 }
-static void seal_block(uint8_t *data, size_t length) { bench_seal(key, 16, payload, used, 1, 258, data, length); }
+static void seal_block(uint8_t *data, size_t length) { done(boards_seal(key, 16, payload, used, 1, 258, data, length)); }
 static void encipher_alone(uint8_t *data, size_t length) {
     memcpy(data, plain_block, length);
-    bench_hch_encipher(key, 16, block_tweak, 16, data, length);
+    done(boards_encipher(key, 16, block_tweak, 16, data, length));
 }
 static void open_block(uint8_t *data, size_t length) {
     memcpy(data, sealed_block, length);
-    bench_open(key, 16, 1, 258, data, length);
+    done(boards_open(key, 16, 1, 258, data, length));
 }
 static void decipher_alone(uint8_t *data, size_t length) {
     memcpy(data, sealed_block, length);
-    bench_hch_decipher(key, 16, block_tweak, 16, data, length);
+    done(boards_decipher(key, 16, block_tweak, 16, data, length));
 }
 
 static double now(void) {

@@ -1,7 +1,7 @@
 /* Times the program boardline on a stream of lines of 4,096-byte boards beside the library's own calls on the same boards, turn by turn in one run,
    and prints how much of the library's speed the program has, both ways: 1 would be all of it. The program reads a file and writes to one. */
 #define _POSIX_C_SOURCE 200809L
-#include <stdint.h>
+#include <boards.h>
 #include <stdio.h>
 #include <stdlib.h>
 #include <string.h>
@@ -9,9 +9,7 @@
 #include <time.h>
 #include <unistd.h>
 
-/* From the archive of crates/bench. A slice is a pointer and a length. */
 typedef uint32_t call(const uint8_t *key, size_t key_length, const uint8_t *tweak, size_t tweak_length, uint8_t *data, size_t length);
-call bench_hch_encipher, bench_hch_decipher;
 
 enum { TURNS = 20, LINES = 600, BOARD = 4096 };
 
@@ -81,7 +79,7 @@ static double run_program(const char *program, FILE *in, FILE *out) {
 static double run_library(call *work) {
     memcpy(results, boards, sizeof boards);
     double start = now();
-    for (int i = 0; i < LINES; i++) work(key, 16, tweak, 16, results[i], BOARD);
+    for (int i = 0; i < LINES; i++) need(work(key, 16, tweak, 16, results[i], BOARD) == BOARDS_DONE, "a call was not done");
     return now() - start;
 }
 
@@ -117,7 +115,7 @@ int main(int argc, char **argv) {
     uint32_t x = 1;
     for (int i = 0; i < LINES; i++)
         for (int j = 0; j < BOARD; j++) boards[i][j] = (uint8_t)((x = x * 1664525 + 1013904223) >> 24);
-    compare(argv[1], "enciphering", 'E', bench_hch_encipher);
-    compare(argv[1], "deciphering", 'D', bench_hch_decipher);
+    compare(argv[1], "enciphering", 'E', boards_encipher);
+    compare(argv[1], "deciphering", 'D', boards_decipher);
     return 0;
 }

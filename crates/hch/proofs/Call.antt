@@ -58,8 +58,12 @@ other n (inr (inl e)) z = omega arith
 other n (inr (inr (inl e))) z = omega arith
 other n (inr (inr (inr e))) z = omega arith
 
-pub not-done : (a : Answer) → OneOf (1 ∷ 2 ∷ 3 ∷ 4 ∷ []) (tagOf the-type a) → a ≡ Done → ⊥
-not-done a h e = other (tagOf the-type a) h (ap (tagOf the-type) e)
+pub not-done : (a : Answer) → OneOf (1 ∷ 2 ∷ 3 ∷ 4 ∷ []) (tagOf the-type a) → numberOf a ≡ 0 → ⊥
+not-done Done h e = other 0 h e
+not-done KeyLength h e = omega (arith, e)
+not-done TweakLength h e = omega (arith, e)
+not-done TooShort h e = omega (arith, e)
+not-done TooLong h e = omega (arith, e)
 
 pub refused : (a : Answer) (work message : List ℕ) → OneOf (1 ∷ 2 ∷ 3 ∷ 4 ∷ []) (tagOf the-type a) → message ≡ leftBy (numberOf a) work message
 refused Done work message h = absurd (other 0 h refl)

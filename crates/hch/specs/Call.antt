@@ -27,5 +27,5 @@ answerOf key tweak message =
     (cond (ltb 4096 (length message)) TooLong Done)))
 
 -- Demand 3: where the call was done, exactly one message of the length of C enciphers to C, and it is P.
-abbrev pub OnePlaintext : Answer → (key tweak C P : List ℕ) → Type 0
-OnePlaintext answer key tweak C P = answer ≡ Done → OnePreimage (length C) (enciphered key tweak) C P
+abbrev pub OnePlaintext : (number : ℕ) (key tweak C P : List ℕ) → Type 0
+OnePlaintext number key tweak C P = number ≡ 0 → OnePreimage (length C) (enciphered key tweak) C P

@@ -154,7 +154,7 @@ pub fn encipher(key: &[u8], tweak: &[u8], data: &mut [u8]) -> Answer
 pub fn decipher(key: &[u8], tweak: &[u8], data: &mut [u8]) -> Answer
     ensures { λ r. ⌜ r ≡ answerOf (now (key .entry)) (now (tweak .entry)) (now («data» .entry)) ⌝ }
     ensures { λ r. ⌜ now («data» .exit) ≡ leftBy (numberOf r) (deciphered (now (key .entry)) (now (tweak .entry)) (now («data» .entry))) (now («data» .entry)) ⌝ }
-    ensures { λ r. ⌜ OnePlaintext r (now (key .entry)) (now (tweak .entry)) (now («data» .entry)) (now («data» .exit)) ⌝ }
+    ensures { λ r. ⌜ OnePlaintext (numberOf r) (now (key .entry)) (now (tweak .entry)) (now («data» .entry)) (now («data» .exit)) ⌝ }
 {
     let answer = judge(key, tweak, data);
     if let Answer::Done = answer {

@@ -32,6 +32,10 @@ tweak pack place = bytes 8 pack ++ replicate 4 0 ++ bytes 4 place
 unfoldable pub used : List ℕ → ℕ
 used B = number (take 2 (drop 508 B))
 
+-- The payload that a plain block begins with: its first u bytes.
+abbrev pub payloadOf : List ℕ → List ℕ
+payloadOf B = take (used B) B
+
 -- 01, "compares all of the check with the pack and place that it was given (a u over 496 fails)".
 unfoldable pub passes : (pack place : ℕ) → List ℕ → Bool
 passes pack place B = leb (used B) 496 && equal (drop (used B) B) (check (used B) pack place)

@@ -14,7 +14,7 @@ use Rattle.blocks.specs.Call.{leftBy}
 use Rattle.blocks.specs.Permutation.{Cipher, TweakableCipher}
 use Rattle.blocks.proofs.Bytes.{below-take}
 use Rattle.blocks.proofs.One.{both, equal-refl, equal-true, one-string}
-use Rattle.layout.specs.Layout.{plainBlock, tweak, used, passes}
+use Rattle.layout.specs.Layout.{plainBlock, tweak, used, payloadOf, passes}
 use Rattle.pack.specs.Sealing.{seal, WithinLimits}
 use Rattle.pack.specs.Opening.{numberOf, valuesOf, decipheredBlock, answerOf, opensTo, OneBlock, NoPayload, Meaning}
 use Rattle.pack.specs.declared.opening.Opened.{Opened}
@@ -26,16 +26,12 @@ use Rattle.layout.proofs.Check.{tweak-of-length, plain-of-length, used-plain, t
 abbrev byTests : (a b c d : Bool) (u : ℕ) → Opened
 byTests a b c d u = cond (not a) KeyLength (cond (not b) BlockLength (cond c PlaceTooHigh (cond (not d) CheckFailed (Done u))))
 
-no-value : (u : ℕ) → [] ≡ u ∷ [] → ⊥
-no-value u e = omega (arith, ap (λ (s : List ℕ). length s) e)
-
-by-value : (a b c d : Bool) (u v : ℕ) → valuesOf (byTests a b c d u) ≡ v ∷ []
-    → (a ≡ true) × (b ≡ true) × (c ≡ false) × (d ≡ true) × (u ≡ v)
-by-value false b c d u v e = absurd (no-value v e)
-by-value true false c d u v e = absurd (no-value v e)
-by-value true true true d u v e = absurd (no-value v e)
-by-value true true false false u v e = absurd (no-value v e)
-by-value true true false true u v e = (refl, refl, refl, refl, ap (λ (s : List ℕ). getD s 0 0) e)
+by-zero : (a b c d : Bool) (u : ℕ) → numberOf (byTests a b c d u) ≡ 0 → (a ≡ true) × (b ≡ true) × (c ≡ false) × (d ≡ true)
+by-zero false b c d u e = absurd (omega (arith, e))
+by-zero true false c d u e = absurd (omega (arith, e))
+by-zero true true true d u e = absurd (omega (arith, e))
+by-zero true true false false u e = absurd (omega (arith, e))
+by-zero true true false true u e = (refl, refl, refl, refl)
 
 by-eight : (a b c d : Bool) (u : ℕ) → numberOf (byTests a b c d u) ≡ 8 → d ≡ false
 by-eight false b c d u e = absurd (omega (arith, e))
@@ -51,29 +47,27 @@ module _ (D : List ℕ → List ℕ → List ℕ → List ℕ) (key : List ℕ) 
   unfolding answerOf
   by-check k l h t e = rw (eq-eqb _ 16 k, eq-eqb _ 512 l, le-ltb 65535 _ h, e)
 
-  -- What is known of a call that returned u.
-  record Admitted (u : ℕ) : Type 0 where
+  -- What is known of a call that was done.
+  record Admitted : Type 0 where
     key-length : length key ≡ 16
     block-length : length C ≡ 512
     place-limit : place ≤ 65535
     passed : passes pack place (decipheredBlock D key pack place C) ≡ true
-    value : used (decipheredBlock D key pack place C) ≡ u
 
-  admitted : (u : ℕ) → valuesOf (answerOf D key pack place C) ≡ u ∷ [] → Admitted u
+  admitted : numberOf (answerOf D key pack place C) ≡ 0 → Admitted
   unfolding answerOf
-  admitted u e =
+  admitted e =
       let B = decipheredBlock D key pack place C in
-      let t = by-value (eqb (length key) 16) (eqb (length C) 512) (ltb 65535 place) (passes pack place B) (used B) u e in
+      let t = by-zero (eqb (length key) 16) (eqb (length C) 512) (ltb 65535 place) (passes pack place B) (used B) e in
       record {
         key-length = eqb-true (length key) 16 (t .0);
         block-length = eqb-true (length C) 512 (t .1);
         place-limit = ltb-false 65535 place (t .2);
         passed = t .3;
-        value = t .4;
       }
 
-  done : (u : ℕ) → Admitted u → answerOf D key pack place C ≡ Done u
-  done u a = rw (a .value) at (by-check (a .key-length) (a .block-length) (a .place-limit) true (a .passed))
+  done : Admitted → answerOf D key pack place C ≡ Done (used (decipheredBlock D key pack place C))
+  done a = by-check (a .key-length) (a .block-length) (a .place-limit) true (a .passed)
 
   failed : numberOf (answerOf D key pack place C) ≡ 8 → passes pack place (decipheredBlock D key pack place C) ≡ false
   unfolding answerOf
@@ -111,14 +105,15 @@ module _ (E D : List ℕ → List ℕ → List ℕ → List ℕ) (key : List ℕ
   -- What passes its check was sealed.
   sealed-passed : (C : List ℕ) → OfLength 512 C → passes pack place (decipheredBlock D key pack place C) ≡ true
       → let B = decipheredBlock D key pack place C in
-      let payload = take (used B) B in
-      Bytes payload × (length payload ≤ 496) × (seal E key payload pack place ≡ C)
+      let payload = payloadOf B in
+      Bytes payload × (used B ≤ 496) × (length payload ≤ 496) × (seal E key payload pack place ≡ C)
   unfolding seal decipheredBlock
   sealed-passed C h e =
       let B = D key (tweak pack place) C in
       let k = at-tweak .inverse-keeps C h in
       let only = passes-only pack place B (k .0) e in (
         below-take (used B) B (k .1),
+        only .0,
         rw (length-take-le (used B) B (omega (arith, k .0, only .0))) (only .0),
         rw (sym (only .1)) (at-tweak .undoes C h),
       )
@@ -132,10 +127,12 @@ module _ (E D : List ℕ → List ℕ → List ℕ → List ℕ) (key : List ℕ
       let left = equal (take n (leftBy (numberOf r) B C)) payload in
       let parts = both (eqb (numberOf r) 0 && equal (valuesOf r) (n ∷ [])) left t in
       let returned = both (eqb (numberOf r) 0) (equal (valuesOf r) (n ∷ [])) (parts .0) in
-      let a = admitted D key pack place C n (equal-true (valuesOf r) (n ∷ []) (returned .1)) in
-      let same : equal (take n B) payload ≡ true = rw (done D key pack place C n a) at (parts .1) in
-      let front : take (used B) B ≡ payload = rw (a .value) (equal-true (take n B) payload same) in
-      sym (rw front at (sealed-passed C h (a .passed) .2))
+      let a = admitted D key pack place C (eqb-true (numberOf r) 0 (returned .0)) in
+      let d = done D key pack place C a in
+      let u : used B ≡ n = ap (λ (s : List ℕ). getD s 0 0) (equal-true (used B ∷ []) (n ∷ []) (rw d at (returned .1))) in
+      let same : equal (take n B) payload ≡ true = rw d at (parts .1) in
+      let front : payloadOf B ≡ payload = rw u (equal-true (take n B) payload same) in
+      sym (rw front at (sealed-passed C h (a .passed) .3))
 
   pub one-block : (payload : List ℕ) → length key ≡ 16 → WithinLimits payload place → OneBlock D key payload pack place (seal E key payload pack place)
   unfolding opensTo
@@ -160,7 +157,7 @@ module _ (E D : List ℕ → List ℕ → List ℕ → List ℕ) (key : List ℕ
   fails C k h l none true e =
       let B = decipheredBlock D key pack place C in
       let s = sealed-passed C h e in
-      absurd (none (take (used B) B) (s .0) (s .1) (s .2))
+      absurd (none (payloadOf B) (s .0) (s .2) (s .3))
 
   no-payload : (C : List ℕ) → numberOf (answerOf D key pack place C) ≡ 8 → NoPayload E key pack place C
   no-payload C e payload b h s =
@@ -174,26 +171,29 @@ module _ (E D : List ℕ → List ℕ → List ℕ → List ℕ) (key : List ℕ
       × (NoPayload E key pack place C → numberOf (answerOf D key pack place C) ≡ 8)
   eight C k h l = (no-payload C, λ none. fails C k h l none (passes pack place (decipheredBlock D key pack place C)) refl)
 
-  -- An answer and what is left by it have their meaning.
+  -- A number and what is left by it have their meaning.
   meaning : (C : List ℕ) → Bytes C
-      → let answer = answerOf D key pack place C in
-      Meaning E D answer key pack place C (leftBy (numberOf answer) (decipheredBlock D key pack place C) C)
+      → let number = numberOf (answerOf D key pack place C) in
+      Meaning E D number key pack place C (leftBy number (decipheredBlock D key pack place C) C)
   meaning C b =
       let B = decipheredBlock D key pack place C in
-      let r = answerOf D key pack place C in
-      let whole : (u : ℕ) → (e : valuesOf r ≡ u ∷ []) → Bytes (take u B) × (length (take u B) ≤ 496) × (seal E key (take u B) pack place ≡ C) =
-      λ u e. let a = admitted D key pack place C u e in rw (a .value) at (sealed-passed C (a .block-length, b) (a .passed)) in
+      let number = numberOf (answerOf D key pack place C) in
+      let known : number ≡ 0 → Admitted D key pack place C = admitted D key pack place C in
+      let left : number ≡ 0 → leftBy number B C ≡ B = λ e. rw (done D key pack place C (known e)) in
+      let whole : number ≡ 0 → Bytes (payloadOf B) × (used B ≤ 496) × (length (payloadOf B) ≤ 496) × (seal E key (payloadOf B) pack place ≡ C) =
+      λ e. let a = known e in sealed-passed C (a .block-length, b) (a .passed) in
       record {
-        sealed = λ u e. rw (done D key pack place C u (admitted D key pack place C u e)) (whole u e .2);
-        one-block = λ u e.
-            let a = admitted D key pack place C u e in
-            let w = whole u e in
-            let limits : WithinLimits (take u B) place = record { payload-bytes = w .0; payload-length = w .1; place-limit = a .place-limit } in
-            let one : OneBlock D key (take u B) pack place C = rw (w .2) at (one-block (take u B) (a .key-length) limits) in
-            rw (done D key pack place C u a) one;
+        used-limit = λ e. rw (left e) (whole e .1);
+        sealed = λ e. rw (left e) (whole e .3);
+        one-block = λ e.
+            let a = known e in
+            let w = whole e in
+            let limits : WithinLimits (payloadOf B) place = record { payload-bytes = w .0; payload-length = w .2; place-limit = a .place-limit } in
+            let one : OneBlock D key (payloadOf B) pack place C = rw (w .3) at (one-block (payloadOf B) (a .key-length) limits) in
+            rw (left e) one;
         eight = λ k l h. eight C k (l, b) h;
       }
 
   pub answer-means : (C B : List ℕ) (answer : Opened) → Bytes C → answer ≡ answerOf D key pack place C
-      → B ≡ leftBy (numberOf answer) (decipheredBlock D key pack place C) C → Meaning E D answer key pack place C B
+      → B ≡ leftBy (numberOf answer) (decipheredBlock D key pack place C) C → Meaning E D (numberOf answer) key pack place C B
   answer-means C B answer b e l = rw (l, e) (meaning C b)

@@ -32,7 +32,7 @@ pub hch-tweakable : (key : List ℕ) → TweakableCipher 512 (enciphered key) (d
 hch-tweakable key T h = hch.theorems .hch-cipher key T 512 h (omega arith)
 
 pub hch-meaning : (key : List ℕ) (pack place : ℕ) (C B : List ℕ) (answer : Opened) → Bytes C → answer ≡ answerOf deciphered key pack place C
-    → B ≡ leftBy (numberOf answer) (decipheredBlock deciphered key pack place C) C → Meaning enciphered deciphered answer key pack place C B
+    → B ≡ leftBy (numberOf answer) (decipheredBlock deciphered key pack place C) C → Meaning enciphered deciphered (numberOf answer) key pack place C B
 hch-meaning key = answer-means enciphered deciphered key (hch-tweakable key)
 
 pub hch-pack : (key : List ℕ) → length key ≡ 16 → Pack enciphered deciphered key

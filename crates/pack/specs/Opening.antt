@@ -8,7 +8,7 @@ use lib.ListN.{length, take}
 use Rattle.blocks.specs.Bytes.{Bytes, equal}
 use Rattle.blocks.specs.One.{OneString}
 use Rattle.blocks.specs.Call.{leftBy}
-use Rattle.layout.specs.Layout.{tweak, used, passes}
+use Rattle.layout.specs.Layout.{tweak, used, payloadOf, passes}
 use Rattle.pack.specs.Sealing.{seal}
 use Rattle.pack.specs.declared.opening.Opened.{Opened}
 use Rattle.pack.specs.declared.opening.Opened.the-variants.{Done, KeyLength, BlockLength, PlaceTooHigh, CheckFailed}
@@ -61,12 +61,13 @@ module _ (E : List ℕ → List ℕ → List ℕ → List ℕ) where
   abbrev pub NoPayload : (key : List ℕ) (pack place : ℕ) (C : List ℕ) → Type 0
   NoPayload key pack place C = (payload : List ℕ) → Bytes payload → length payload ≤ 496 → seal E key payload pack place ≡ C → ⊥
 
--- What the answer means when C was to be opened and B is left.
-pub record Meaning (E D : List ℕ → List ℕ → List ℕ → List ℕ) (answer : Opened) (key : List ℕ) (pack place : ℕ) (C B : List ℕ) : Type 0 where
-  -- Where it returns u, the first u bytes that are left seal to C, and no other block opens to them.
-  pub sealed : (u : ℕ) → valuesOf answer ≡ u ∷ [] → seal E key (take u B) pack place ≡ C
-  pub one-block : (u : ℕ) → valuesOf answer ≡ u ∷ [] → OneBlock D key (take u B) pack place C
+-- What a number means when C was to be opened and B is left.
+pub record Meaning (E D : List ℕ → List ℕ → List ℕ → List ℕ) (number : ℕ) (key : List ℕ) (pack place : ℕ) (C B : List ℕ) : Type 0 where
+  -- Where C was opened, the payload that is left has at most 496 bytes, it seals to C, and no other block opens to it.
+  pub used-limit : number ≡ 0 → used B ≤ 496
+  pub sealed : number ≡ 0 → seal E key (payloadOf B) pack place ≡ C
+  pub one-block : number ≡ 0 → OneBlock D key (payloadOf B) pack place C
   -- 01, "Where 1, 7 and 6 do not apply, number 8 is returned exactly if no payload of 0 to 496 bytes seals to these 512 bytes under this key,
   -- pack and place".
   pub eight : length key ≡ 16 → length C ≡ 512 → place ≤ 65535
-      → (numberOf answer ≡ 8 → NoPayload E key pack place C) × (NoPayload E key pack place C → numberOf answer ≡ 8)
+      → (number ≡ 8 → NoPayload E key pack place C) × (NoPayload E key pack place C → number ≡ 8)

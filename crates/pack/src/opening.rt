@@ -34,7 +34,7 @@ impl Opened {
 pub fn open(key: &[u8], pack: u64, place: u32, block: &mut [u8]) -> Opened
     ensures { λ r. ⌜ r ≡ answerOf deciphered (now (key .entry)) pack place (now (block .entry)) ⌝ }
     ensures { λ r. ⌜ now (block .exit) ≡ leftBy (numberOf r) (decipheredBlock deciphered (now (key .entry)) pack place (now (block .entry))) (now (block .entry)) ⌝ }
-    ensures { λ r. ⌜ Meaning enciphered deciphered r (now (key .entry)) pack place (now (block .entry)) (now (block .exit)) ⌝ }
+    ensures { λ r. ⌜ Meaning enciphered deciphered (numberOf r) (now (key .entry)) pack place (now (block .entry)) (now (block .exit)) ⌝ }
 {
     if key.len() != 16 {
         return Opened::KeyLength;

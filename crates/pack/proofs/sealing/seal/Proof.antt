@@ -1,10 +1,13 @@
 -- Each refusal is that of its test; where none applies, the plain block is laid out and enciphered under its tweak.
 -- Assumes nothing.
 use mathlib.Core.Path.{_≡_, refl}
+use mathlib.Core.Bool.{false}
 use native.Mathlib.Omega.{arith}
 use borrow.Author.Needs.{needs}
 use borrow.Author.Tests.{lt-ltb, le-ltb, eq-eqb, ne-eqb}
 use denote.Ref.{now}
+use lib.Dec.{eqb}
+use lib.ListN.{length}
 use Rattle.hch.specs.Hch.{enciphered}
 use Rattle.pack.specs.Sealing.{seal as sealedBy, WithinLimits, answerOf}
 use Rattle.layout.proofs.Check.{both-fit}
@@ -18,7 +21,10 @@ returns c = (rw (ne-eqb _ 16 (c .if1 .taken)), (refl, λ e. absurd (omega (arith
 
 returns-2 : tie.Need-returns-2
 unfolding answerOf
-returns-2 c = (rw (eq-eqb _ 16 (c .before .if1 .left), ne-eqb _ 512 (c .if2 .taken)), (refl, λ e. absurd (omega (arith, e))))
+returns-2 c =
+    let block = now (c .before .before .before .before .before .args .block) in
+    let other : eqb (length block) 512 ≡ false = ne-eqb _ 512 (c .if2 .taken) in
+    (rw (eq-eqb _ 16 (c .before .if1 .left), other), (refl, λ e. absurd (omega (arith, e))))
 
 returns-3 : tie.Need-returns-3
 unfolding answerOf

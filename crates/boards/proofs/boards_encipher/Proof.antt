@@ -1,8 +1,8 @@
 -- The call's answer, as its number.
 -- Assumes nothing.
 use borrow.Author.Needs.{needs}
-use Rattle.bench.proofs.bench_hch_encipher.Statement.{statement}
-use Rattle.bench.proofs.bench_hch_encipher.Tie as tie
+use Rattle.boards.proofs.boards_encipher.Statement.{statement}
+use Rattle.boards.proofs.boards_encipher.Tie as tie
 
 encipher-requires : tie.Need-encipher-requires
 encipher-requires c κs = search needs
@@ -18,6 +18,6 @@ returns c =
     let e = c .before .before .before in
     (rw (c .number .ensures, e .encipher .ensures .0), rw (c .number .ensures) (e .encipher .ensures .1))
 
-pub bench-hch-encipher-spec : {M : Type 1} → statement M
-bench-hch-encipher-spec =
+pub boards-encipher-spec : {M : Type 1} → statement M
+boards-encipher-spec =
     tie.close (tie.spec encipher-requires number-requires same-length returns)

@@ -1,0 +1,53 @@
+// 01's four functions for the app in C. include/boards.h declares and explains them; a slice is there a pointer and a length. Each answers the number of
+// the call that it makes, 0 where the work was done, and carries that call's promises.
+ghost use mathlib.Core.Path.{_≡_};
+ghost use Rattle.blocks.specs.Call.{leftBy};
+ghost use Rattle.hch.specs.Hch.{enciphered, deciphered};
+ghost use Rattle.hch.specs.Call.{numberOf, answerOf, OnePlaintext};
+ghost use Rattle.pack.specs.Sealing.{seal, numberOf as numberOfSealing, answerOf as answerOfSealing};
+ghost use Rattle.pack.specs.Opening.{decipheredBlock, numberOf as numberOfOpening, answerOf as answerOfOpening, OneBlock, Meaning};
+
+// Enciphers the data in place by HCH.
+#[no_mangle]
+pub extern "C" fn boards_encipher(key: &[u8], tweak: &[u8], data: &mut [u8]) -> u32
+    ensures { λ r. ⌜ r ≡ numberOf (answerOf (now (key .entry)) (now (tweak .entry)) (now («data» .entry))) ⌝ }
+    ensures { λ r. ⌜ now («data» .exit) ≡ leftBy r (enciphered (now (key .entry)) (now (tweak .entry)) (now («data» .entry))) (now («data» .entry)) ⌝ }
+{
+    hch::encipher(key, tweak, data).number()
+}
+
+// Deciphers the data in place by HCH. What it leaves where the work was done is the one message that enciphers to what was lent.
+#[no_mangle]
+pub extern "C" fn boards_decipher(key: &[u8], tweak: &[u8], data: &mut [u8]) -> u32
+    ensures { λ r. ⌜ r ≡ numberOf (answerOf (now (key .entry)) (now (tweak .entry)) (now («data» .entry))) ⌝ }
+    ensures { λ r. ⌜ now («data» .exit) ≡ leftBy r (deciphered (now (key .entry)) (now (tweak .entry)) (now («data» .entry))) (now («data» .entry)) ⌝ }
+    ensures { λ r. ⌜ OnePlaintext r (now (key .entry)) (now (tweak .entry)) (now («data» .entry)) (now («data» .exit)) ⌝ }
+{
+    hch::decipher(key, tweak, data).number()
+}
+
+// Seals a payload into the lent block for a pack and a place. What it leaves where the work was done is the one block that opens to them.
+#[no_mangle]
+pub extern "C" fn boards_seal(
+    key: &[u8],
+    payload: &[u8],
+    pack: u64,
+    place: u32,
+    block: &mut [u8],
+) -> u32
+    ensures { λ r. ⌜ r ≡ numberOfSealing (answerOfSealing (now (key .entry)) (now (payload .entry)) place (now (block .entry))) ⌝ }
+    ensures { λ r. ⌜ now (block .exit) ≡ leftBy r (seal enciphered (now (key .entry)) (now (payload .entry)) pack place) (now (block .entry)) ⌝ }
+    ensures { λ r. ⌜ (r ≡ 0 → OneBlock deciphered (now (key .entry)) (now (payload .entry)) pack place (now (block .exit))) ⌝ }
+{
+    pack::seal(key, payload, pack, place, block).number()
+}
+
+// Opens the lent block as that of a pack and a place. The payload and its length u are read from the block that it leaves.
+#[no_mangle]
+pub extern "C" fn boards_open(key: &[u8], pack: u64, place: u32, block: &mut [u8]) -> u32
+    ensures { λ r. ⌜ r ≡ numberOfOpening (answerOfOpening deciphered (now (key .entry)) pack place (now (block .entry))) ⌝ }
+    ensures { λ r. ⌜ now (block .exit) ≡ leftBy r (decipheredBlock deciphered (now (key .entry)) pack place (now (block .entry))) (now (block .entry)) ⌝ }
+    ensures { λ r. ⌜ Meaning enciphered deciphered r (now (key .entry)) pack place (now (block .entry)) (now (block .exit)) ⌝ }
+{
+    pack::open(key, pack, place, block).number()
+}
