@@ -1,34 +1,51 @@
 /*
- * boards.h: puzzle boards enciphered by HCH over AES-128, and sealed in blocks of 512 bytes, for C99 and C++.
+ * boards.h: puzzle boards enciphered by HCH over AES-128, and sealed in blocks of 512 bytes, for C99 and C++ on
+ * Linux, x86-64.
  *
- * There are four calls. Each does its work on the bytes that it is lent and answers 0, or it answers the number of what
- * is wrong and leaves every byte as it was. It answers so for every key, tweak, board, payload and block, of any length
- * and any content, and for every pack number and every place.
+ *     cc -I PREFIX/include -o program program.c -L PREFIX/lib -lboards
  *
- * Of every call:
- *   - Bytes are lent as a pointer and a length: there have to be as many bytes behind the pointer as the length says.
- *     Where the length is 0, the pointer may be anything, NULL too.
- *   - key, tweak and payload are read and never written. data and block are read and written. Nothing else is touched.
+ * boards_encipher and boards_decipher turn a board into as many other bytes and back. The tweak is no secret: it
+ * stands for where a board belongs, so that the same board looks different elsewhere. The same board under the same
+ * key and tweak always gives the same bytes, and nothing tells whether enciphered bytes were changed.
+ *
+ * boards_seal puts a payload into a block that carries its own check, for a pack and a place, and boards_open gives
+ * it back. A pack is a collection of blocks, known by a number that you choose, and a place is the number of a block
+ * in it. Where the blocks stand in a file is up to you. What is longer than a payload takes several blocks:
+ * examples/save.c, in the source of this library, shows how.
+ *
+ * Each call does its work on the bytes that it is lent and answers 0, or it answers the number of what is wrong and
+ * leaves every byte as it was. It does so for every key, tweak, board, payload and block, of any length and any
+ * content, and for every pack and every place. Of every call:
+ *   - Bytes are lent as a pointer to the first of them and a length. As many bytes have to be there as the length
+ *     says, and those of data and block have to be writable. Where the length is 0, the pointer may be anything, NULL
+ *     too.
+ *   - key, tweak and payload are read and never written. data and block are read and written. Nothing else is
+ *     touched, errno included.
  *   - What is written must not overlap what is read: data or block is to have no byte in common with key, tweak or
- *     payload. The latter may overlap one another.
- *   - Nothing is kept between calls, no memory is allocated, and no system call is made. As compiled today, a call takes
- *     some 2 KiB of stack. Any number of threads may call at once, as long as none is lent bytes that another one's call
- *     may write.
+ *     payload; so a payload cannot be sealed where it stands in the block. key, tweak and payload may overlap each
+ *     other.
+ *   - No call can tell whether a pointer, a length or an overlap is wrong in this sense: nothing is promised then.
+ *   - Nothing is kept between calls, no memory is allocated, and no system call is made. As compiled today, a call
+ *     takes some 2 KiB of stack. Any number of threads may call at once, as long as none is lent bytes that another
+ *     one's call may write.
  *   - The bytes may stand at any address: nothing has to be aligned.
  *
- * What is proved. The four functions are written in Rattle, and a checker has accepted a proof that each ends, touches
- * nothing but the bytes that it is lent, and answers and leaves what is said below, for all arguments. The bytes are those
- * of HCH as D. Chakraborty and P. Sarkar published it, over AES of FIPS 197, and no other board enciphers to the same
- * bytes under the same key and tweak. crates/boards/src/lib.rt in the source has the promises in full.
+ * What is proved. The four functions are written in Rattle, a language in which each function states what it
+ * promises, and the archive libboards.a is made only after a checker has accepted a proof of every promise. Proved is
+ * that each call ends, touches nothing but the bytes that it is lent, and answers and leaves what is said below, for
+ * all arguments; that the bytes are those of HCH as D. Chakraborty and P. Sarkar published it, over AES of FIPS 197;
+ * and that no two boards encipher to the same bytes under the same key and tweak. crates/boards/src/lib.rt, in the
+ * source, has the promises in full.
  *
- * Where the proof ends. Not proved are this header itself (its declarations, its comments and its two inline functions),
- * the compiler that made the archive, the C library's memcpy and memset, that a pointer has as many bytes behind it as its
- * length says, and that HCH is hard to break.
+ * Where the proof ends. Not proved are this header (its declarations, its comments and its two inline functions), the
+ * compiler that makes the archive, the C library's memcpy and memset, that your pointers and lengths are right, and
+ * that HCH is hard to break.
  *
- * Timing. Nothing is promised of the time that a call takes. AES looks up a table at places that depend on the key and the
- * data: whoever shares a processor's cache with the program may learn something of both. The time of boards_open depends
- * on the length of the payload, and a block that is damaged takes twice as long as a good one. The stack is not wiped.
- * Keys are yours to make, to keep and to wipe.
+ * Timing. Nothing is promised of the time that a call takes, and no proof speaks of it. AES looks up a table at
+ * places that depend on the key and the data: whoever shares a processor's cache with the program may learn something
+ * of both. The products in HCH use no table, and no branch that depends on the data was seen in their compiled code.
+ * The time of boards_open depends on the payload's length, and a block that it answers 8 for takes twice as long as a
+ * good one. Nothing is wiped from the stack. Keys are yours to make, to keep and to wipe.
  */
 #ifndef BOARDS_H
 #define BOARDS_H
@@ -36,7 +53,7 @@
 #include <stddef.h>
 #include <stdint.h>
 
-/* The landing that this header belongs to. */
+/* The version of the library. */
 #define BOARDS_VERSION "0.6"
 
 /* The limits, in bytes but for the last. */
@@ -58,7 +75,7 @@
 #define BOARDS_PLACE_TOO_HIGH 6      /* the place is over 65,535 */
 #define BOARDS_WRONG_BLOCK_SIZE 7    /* the block has not 512 bytes */
 #define BOARDS_CHECK_FAILED 8        /* no payload seals to this block under this key, pack and place */
-#define BOARDS_LINE_NOT_UNDERSTOOD 9 /* of the program boardline alone: no function here answers it */
+#define BOARDS_LINE_NOT_UNDERSTOOD 9 /* said by the command boardline alone: no function here answers it */
 
 /* Lets the compiler warn where an answer is not looked at: the data of a refused call is still the plain board. */
 #if defined(__GNUC__)
@@ -74,31 +91,35 @@ extern "C" {
 /*
  * Enciphers a board of 16 to 4,096 bytes in place, by HCH under a key and a tweak of 16 bytes each.
  *
- * Answers 0: data holds the enciphered board, as long as the plain one.
- * Answers 1, 2, 3 or 4, the first of them that applies: data is as it was.
+ * Answers BOARDS_DONE: data holds the enciphered board, as long as the plain one.
+ * Answers 1, 2, 3 or 4, the first of them that applies (BOARDS_WRONG_KEY_SIZE, BOARDS_WRONG_TWEAK_SIZE,
+ * BOARDS_DATA_TOO_SHORT, BOARDS_DATA_TOO_LONG): data is as it was.
  */
 BOARDS_LOOK_AT_ANSWER
 uint32_t boards_encipher(const uint8_t *key, size_t key_length, const uint8_t *tweak, size_t tweak_length,
                          uint8_t *data, size_t length);
 
 /*
- * Deciphers a board of 16 to 4,096 bytes in place, by HCH under the key and the tweak that it was enciphered with. Under
- * others it answers 0 too, and leaves other bytes: a board enciphered so has no check.
+ * Deciphers a board of 16 to 4,096 bytes in place, by HCH under the key and the tweak that it was enciphered with.
+ * Under others it answers BOARDS_DONE too, and leaves some other board: a board enciphered so has no check.
  *
- * Answers 0: data holds the one board of its length that boards_encipher turns into the bytes that were lent.
- * Answers 1, 2, 3 or 4, the first of them that applies: data is as it was.
+ * Answers BOARDS_DONE: data holds the one board of its length that boards_encipher turns into the bytes that were
+ * lent.
+ * Answers 1, 2, 3 or 4, the first of them that applies, as above: data is as it was.
  */
 BOARDS_LOOK_AT_ANSWER
 uint32_t boards_decipher(const uint8_t *key, size_t key_length, const uint8_t *tweak, size_t tweak_length,
                          uint8_t *data, size_t length);
 
 /*
- * Seals a payload of 0 to 496 bytes into a block of 512 bytes, for a pack, of any number, and a place, 0 to 65,535. What
- * the block held before has no effect, and the same payload, sealed again for the same pack and place, gives the same block.
+ * Seals a payload of 0 to 496 bytes into a block of 512 bytes, for any 64-bit pack number and a place from 0 to
+ * 65,535. What the block held before has no effect, and it may never have been written. The same payload, sealed
+ * again for the same pack and place, gives the same block.
  *
- * Answers 0: block holds the sealed block, the only one that boards_open opens to this payload with this key, pack
- * and place.
- * Answers 1, 7, 5 or 6, the first of them that applies, in this order: block is as it was.
+ * Answers BOARDS_DONE: block holds the sealed block, the only one that boards_open opens to this payload with this
+ * key, pack and place.
+ * Answers 1, 7, 5 or 6, the first of them that applies, in this order (BOARDS_WRONG_KEY_SIZE,
+ * BOARDS_WRONG_BLOCK_SIZE, BOARDS_PAYLOAD_TOO_LONG, BOARDS_PLACE_TOO_HIGH): block is as it was.
  */
 BOARDS_LOOK_AT_ANSWER
 uint32_t boards_seal(const uint8_t *key, size_t key_length, const uint8_t *payload, size_t payload_length,
@@ -107,19 +128,22 @@ uint32_t boards_seal(const uint8_t *key, size_t key_length, const uint8_t *paylo
 /*
  * Opens a sealed block of 512 bytes in place, with the key, the pack and the place that it was sealed for.
  *
- * Answers 0: block holds the plain block: the payload from byte 0 on, boards_payload_length(block) bytes of it, then
- * zeros up to byte 495, the pack (8 bytes), the place (4), the payload's length (2) and two zeros, each number with its
- * highest byte first.
- * Answers 8: boards_seal makes this block from no payload, with this key, pack and place. It was damaged, or it is that of
- * another key, pack or place. block is as it was.
- * Answers 1, 7 or 6, the first of them that applies, in this order and before 8: block is as it was.
+ * Answers BOARDS_DONE: block holds the plain block. It has the payload from byte 0 on, boards_payload_length(block)
+ * bytes of it, then zeros up to byte 495, the pack (8 bytes), the place (4), the payload's length (2) and two zeros,
+ * each number with its highest byte first.
+ * Answers 1, 7, 6 or 8, the first of them that applies, in this order (BOARDS_WRONG_KEY_SIZE,
+ * BOARDS_WRONG_BLOCK_SIZE, BOARDS_PLACE_TOO_HIGH, BOARDS_CHECK_FAILED): block is as it was. 8 says that boards_seal
+ * makes this block from no payload at all with this key, pack and place: it was damaged, or it belongs to another
+ * key, pack or place.
  */
 BOARDS_LOOK_AT_ANSWER
-uint32_t boards_open(const uint8_t *key, size_t key_length, uint64_t pack, uint32_t place, uint8_t *block, size_t length);
+uint32_t boards_open(const uint8_t *key, size_t key_length, uint64_t pack, uint32_t place,
+                     uint8_t *block, size_t length);
 
-/* The payload's length, 0 to 496, in a block of 512 bytes that boards_open has opened. */
+/* The payload's length, 0 to 496, in a block that boards_open has opened. Of other bytes it tells nothing: it may be
+   up to 65,535 there. */
 static inline size_t boards_payload_length(const uint8_t *block) {
-    return (size_t)block[508] << 8 | block[509];
+    return 256u * block[508] + block[509];
 }
 
 /* What an answer means, as a sentence for a person, without a full stop. It is never NULL, whatever the number. */

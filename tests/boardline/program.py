@@ -21,10 +21,10 @@ import time
 
 import boardline
 from boardline import LONGEST
-from harness import (
-    EVERY_KIND, GOOD, ROOT, SECONDS, Differs, Ended, answers, check_end,
-    ended, ended_endless, expected, mixed, promptly, read, receive, started,
-    wait)
+from harness import ROOT, SECONDS, Differs, Ended, ended, started, wait
+from shared import (
+    EVERY_KIND, GOOD, answers, check_end, ended_endless, expected, mixed,
+    promptly, read, receive)
 
 # 3 megabytes without a line feed, and number 9 for its length alone.
 LONG_LINE = b"E   " + b"0123456789abcdef" * 200000

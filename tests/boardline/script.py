@@ -13,10 +13,11 @@ import tempfile
 import tty
 
 import boardline
-from harness import (
-    GOOD, PROMPT, Differs, answers, ended, ended_endless, expected, mixed,
-    promptly, receive, receive_line, shown, started, wait)
+from harness import Differs, ended, shown, started, wait
 from program import LONG_LINE, failing_inputs, failing_outputs, gate_cases
+from shared import (
+    GOOD, PROMPT, answers, ended_endless, expected, mixed, promptly, receive,
+    receive_line)
 
 EXAMPLE = re.compile(rb"\b[ED]( ([0-9a-f]{2})*){3}")
 

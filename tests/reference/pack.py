@@ -53,13 +53,14 @@ def passes(plain, pack, place):
 
 
 @functools.cache
-def seal(key, payload, pack, place):
-    """The sealed block. "Sealing looks at 1, 7, 5, 6." The lent block is made
-    here, as "what the lent block held before has no effect": so it has 512
-    bytes, and 7 cannot occur.
+def seal(key, payload, pack, place, length=SIZE):
+    """The sealed block. "Sealing looks at 1, 7, 5, 6." Of the lent block only
+    the length is given, as "what the lent block held before has no effect".
     """
     if len(key) != 16:
         raise Refused(1)
+    if length != SIZE:
+        raise Refused(7)
     if len(payload) > MOST:
         raise Refused(5)
     if place > LAST_PLACE:
@@ -143,7 +144,13 @@ def check():
     assert number_of(seal, b"\x00", payload, 1, 3) == 1
     assert number_of(seal, key, bytes(497), 1, 3) == 5
     assert number_of(seal, key, payload, 1, 65536) == 6
+    assert number_of(seal, key, payload, 1, 3, 511) == 7
     assert number_of(open, b"\x00", 1, 3, block) == 1
     assert number_of(open, key, 1, 65536, block) == 6
     assert number_of(open, key, 1, 3, block[:511]) == 7
     assert number_of(open, key, 1, 4, block) == 8
+
+    # The order of sealing; cases_pack.py has that of opening.
+    assert number_of(seal, b"", bytes(497), 1, 65536, 511) == 1
+    assert number_of(seal, key, bytes(497), 1, 65536, 511) == 7
+    assert number_of(seal, key, bytes(497), 1, 65536) == 5

@@ -1,26 +1,19 @@
-"""What the runs of the program and those of the script share.
-
-A run is a name and a function without arguments. The function returns a note
-or None, and raises Differs where something is not as it has to be.
+"""What the runs of the program and those of the script share: the expected
+answers, by the reference, and lines to make inputs of.
 """
 
-import contextlib
 import functools
 import os
-import pathlib
 import random
 import re
 import select
-import signal
 import subprocess
 
 import boardline
 from boardline import LONGEST
+from harness import Differs, Ended, compare, ended, shown, started, wait
 
-ROOT = pathlib.Path(__file__).resolve().parents[2]
-
-SECONDS = 60  # a process that has not ended by then has failed
-PROMPT = 10  # seconds: the same for an answer, and without end of input
+PROMPT = 10  # seconds: for an answer, and for an end without end of input
 
 answer = functools.cache(boardline.answer)
 
@@ -30,71 +23,6 @@ def expected(data):
     return b"".join(answer(line) + b"\n" for line in boardline.lines(data))
 
 
-class Differs(Exception):
-    """What was not as it has to be."""
-
-
-def shown(string, most=48):
-    return repr(string[:most]) + (".." if len(string) > most else "")
-
-
-def compare(what, wanted, got):
-    if got == wanted:
-        return
-    at = len(os.path.commonprefix([wanted, got]))
-    line = wanted.count(b"\n", 0, at) + 1
-    raise Differs(
-        f"{what} has {len(got)} bytes in the place of {len(wanted)}; from "
-        f"byte {at} on, in line {line}, it is {shown(got[at:])} in the place "
-        f"of {shown(wanted[at:])}")
-
-
-@contextlib.contextmanager
-def started(command, **options):
-    """A process in a session of its own, which is killed if it is left before
-    it has ended."""
-    process = subprocess.Popen(command, bufsize=0, start_new_session=True,
-                               **options)
-    try:
-        yield process
-    finally:
-        if process.poll() is None:
-            os.killpg(process.pid, signal.SIGKILL)
-            process.wait()
-        for pipe in (process.stdin, process.stdout, process.stderr):
-            if pipe:
-                pipe.close()
-
-
-def wait(process, seconds=SECONDS):
-    try:
-        return process.wait(seconds)
-    except subprocess.TimeoutExpired:
-        raise Differs(f"has not ended within {seconds} s") from None
-
-
-class Ended:
-    """What a process wrote, and its status."""
-
-    def __init__(self, stdout, stderr, status):
-        self.stdout, self.stderr, self.status = stdout, stderr, status
-
-    def check(self, stdout=b"", error_lines=0, status=None):
-        """Whether it wrote this, and none or one line on standard error. A
-        status of None stands for any, but not for a signal."""
-        compare("standard output", stdout, self.stdout)
-        lines = self.stderr.split(b"\n")
-        if error_lines == 0:
-            compare("standard error", b"", self.stderr)
-        elif len(lines) != 2 or lines[0] == b"" or lines[1] != b"":
-            raise Differs(f"standard error is {shown(self.stderr)} in the "
-                          "place of one line")
-        if self.status < 0:
-            raise Differs(f"ended by signal {-self.status}")
-        if status not in (None, self.status):
-            raise Differs(f"status {self.status} in the place of {status}")
-
-
 def check_end(process, status=None):
     """The process ends, and has written nothing more on its two pipes."""
     got = wait(process)
@@ -102,20 +30,8 @@ def check_end(process, status=None):
         status=status)
 
 
-def ended(command, data=None, stdin=subprocess.PIPE, stdout=subprocess.PIPE,
-          seconds=SECONDS, **options):
-    """Runs the command to its end on the data, or on an open file."""
-    with started(command, stdin=stdin, stdout=stdout, stderr=subprocess.PIPE,
-                 **options) as process:
-        try:
-            output, errors = process.communicate(data, seconds)
-        except subprocess.TimeoutExpired:
-            raise Differs(f"has not ended within {seconds} s") from None
-        return Ended(output or b"", errors, process.returncode)
-
-
 def ended_endless(command, **options):
-    """The same on lines without end."""
+    """Runs the command on lines without end, until it ends by itself."""
     with started(["yes", "Q"], stdout=subprocess.PIPE) as source:
         return ended(command, stdin=source.stdout, seconds=PROMPT, **options)
 

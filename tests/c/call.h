@@ -1,0 +1,44 @@
+/* A call of the library, with the answer and the bytes that have to come of it. */
+#ifndef CALL_H
+#define CALL_H
+
+#include "lent.h"
+
+typedef enum { ENCIPHER, DECIPHER, SEAL, OPEN, FUNCTIONS } function;
+
+extern const char *const function_names[FUNCTIONS];
+
+typedef struct {
+    const uint8_t *bytes;
+    size_t length;
+} slice;
+
+typedef struct {
+    function name;
+    slice key;
+    slice tweak;   /* of ENCIPHER and DECIPHER alone */
+    slice payload; /* of SEAL alone */
+    slice data;    /* the board, or the block */
+    uint64_t pack; /* of SEAL and OPEN alone, as is the place */
+    uint32_t place;
+    uint32_t number;       /* the answer */
+    const uint8_t *after;  /* what data holds then, as many bytes as before */
+    size_t payload_length; /* what boards_payload_length says of a block that was opened */
+} call;
+
+/* The calls that were made. */
+extern unsigned long calls;
+
+/* Makes the call on the very bytes that it names, and compares nothing. */
+uint32_t answer(const call *c);
+
+/* Makes the call on copies that stand at this position, and compares. */
+void hold_at(const call *c, position where);
+
+/* The same at the front and at the end, and, where something lent is empty, with each kind of pointer for it. */
+void hold(const call *c);
+
+/* Bytes without a pattern, the same ones for the same seed. */
+void fill(uint8_t *bytes, size_t length, uint32_t seed);
+
+#endif

@@ -1,0 +1,227 @@
+"""The cases of the client: calls, and what has to come of each by the
+reference program.
+
+A case is a line, one call, and cases.c has its fields. What the reference
+enciphers or seals serves both directions, since it is slow.
+"""
+
+import itertools
+import random
+
+import hch
+import pack as packs
+from cases_pack import by_hand, with_bit, with_bytes
+from harness import ROOT
+from hch import Refused
+from pack import LAST_PLACE, MOST, SIZE, plain_block, seal
+
+# Up to three blocks and a byte, about 512 bytes and about 4,096.
+LENGTHS = [*range(50), *range(495, 514), *range(4080, 4113)]
+PLACES = [0, 1, 258, 65534, LAST_PLACE, 65536, 65537, 1 << 31, (1 << 32) - 1]
+PACKS = [0, 1, (1 << 63) - 1, 1 << 63, (1 << 64) - 2, (1 << 64) - 1]
+
+
+def case(name, key, tweak=b"", payload=b"", data=b"", pack=0, place=0,
+         number=0, after=None, used=0):
+    """The line of a call that answers this number. It leaves the bytes of
+    after, or, where this is None, data as it was."""
+    if after is None:
+        after = "="
+    else:
+        assert len(after) == len(data)
+        after = after.hex() or "-"
+    slices = (part.hex() or "-" for part in (key, tweak, payload, data))
+    return " ".join([name, *slices, str(pack), str(place), str(number), after,
+                     str(used)])
+
+
+def both(key, tweak, board):
+    """The board enciphered, and the result deciphered; or both refused."""
+    try:
+        enciphered = hch.encipher(key, tweak, board)
+    except Refused:
+        number = hch.number_of(key, tweak, board)
+        for name in ("encipher", "decipher"):
+            yield case(name, key, tweak, data=board, number=number)
+    else:
+        yield case("encipher", key, tweak, data=board, after=enciphered)
+        yield case("decipher", key, tweak, data=enciphered, after=board)
+
+
+def sealing(key, payload, pack, place, block):
+    """The payload sealed into a block that holds these bytes."""
+    try:
+        number, after = 0, seal(key, payload, pack, place, len(block))
+    except Refused as refused:
+        number, after = refused.number, None
+    return case("seal", key, payload=payload, data=block, pack=pack,
+                place=place, number=number, after=after)
+
+
+def opening(key, pack, place, block):
+    try:
+        number, (used, after) = 0, packs.open(key, pack, place, block)
+    except Refused as refused:
+        number, used, after = refused.number, 0, None
+    return case("open", key, data=block, pack=pack, place=place,
+                number=number, after=after, used=used)
+
+
+def pair(key, payload, pack, place, block):
+    """A payload within the limits sealed into a block of 512 bytes, and then
+    opened: to the plain block of 01, as the reference's own check() says."""
+    sealed = seal(key, payload, pack, place)
+    yield case("seal", key, payload=payload, data=block, pack=pack,
+               place=place, after=sealed)
+    yield case("open", key, data=sealed, pack=pack, place=place,
+               after=plain_block(payload, pack, place), used=len(payload))
+
+
+def data_lengths(rng):
+    for length in LENGTHS:
+        yield from both(rng.randbytes(16), rng.randbytes(16),
+                        rng.randbytes(length))
+
+
+def key_and_tweak_lengths(rng):
+    for length in range(34):
+        some, good, board, block = map(rng.randbytes, (length, 16, 40, SIZE))
+        yield from both(some, good, board)
+        yield from both(good, some, board)
+        yield from both(some, some, board)
+        yield sealing(some, board, 1, 2, block)
+        key = some if length == 16 else good
+        yield opening(some, 1, 2, seal(key, board, 1, 2))
+
+
+def payloads(rng):
+    for length in range(501):
+        key, payload, block = map(rng.randbytes, (16, length, SIZE))
+        pack, place = rng.getrandbits(64), rng.getrandbits(16)
+        if length <= MOST:
+            yield from pair(key, payload, pack, place, block)
+        else:
+            yield sealing(key, payload, pack, place, block)
+
+
+def lent_blocks(rng):
+    """For opening, a good block cut short, or with others behind it."""
+    key, payload = rng.randbytes(16), rng.randbytes(77)
+    pack, place = rng.getrandbits(64), rng.getrandbits(16)
+    good = seal(key, payload, pack, place)
+    for length in LENGTHS:
+        yield sealing(key, payload, pack, place, rng.randbytes(length))
+        yield opening(key, pack, place, (9 * good)[:length])
+
+
+def places_and_packs(rng):
+    """For opening at a place over 65,535, a block that would pass its check,
+    which is looked at last."""
+    key, payload = rng.randbytes(16), rng.randbytes(20)
+    for pack, place in itertools.product(PACKS, PLACES):
+        block = rng.randbytes(SIZE)
+        if place <= LAST_PLACE:
+            yield from pair(key, payload, pack, place, block)
+        else:
+            yield sealing(key, payload, pack, place, block)
+            yield opening(key, pack, place, by_hand(
+                key, pack, place, plain_block(payload, pack, place)))
+
+
+def wrong_blocks(rng):
+    """Blocks of another place, pack or key, and such as decipher to a plain
+    block with one part of its check wrong."""
+    key, payload, full = map(rng.randbytes, (16, 20, MOST))
+    pack, place = rng.getrandbits(64), 3
+    good = seal(key, payload, pack, place)
+    yield opening(key, pack, place, good)
+    yield opening(key, pack, 4, good)
+    yield opening(key, pack ^ 1, place, good)
+    yield opening(key, pack ^ 1 << 63, place, good)
+    yield opening(rng.randbytes(16), pack, place, good)
+
+    plain, filled = (plain_block(used, pack, place)
+                     for used in (payload, full))
+    wrong = [with_bit(plain, at, 0x80) for at in (
+        20, 21, 255, 256, 494, *range(495, 508), 510, 511)]
+    wrong += [with_bytes(block, 508, used.to_bytes(2, "big"))
+              for block in (plain, filled)
+              for used in (0, 19, 497, 511, 512, 65535)]
+    for block in wrong:
+        assert not packs.passes(block, pack, place)
+        yield opening(key, pack, place, by_hand(key, pack, place, block))
+
+
+def refusals(rng):
+    """All the conditions together, each of them met or not."""
+    good = rng.randbytes(16)
+    keys = [rng.randbytes(15), good, rng.randbytes(17)]
+    for key, other, length in itertools.product(keys, keys, (15, 16, 4097)):
+        yield from both(key, other, rng.randbytes(length))
+    block = seal(good, b"ABC", 1, 3)
+    for key, length, used, place in itertools.product(
+            keys, (511, SIZE, 513), (MOST, MOST + 1), (3, 65536 + 3)):
+        yield sealing(key, bytes(used), 1, place, (2 * block)[:length])
+    for key, length, place, pack in itertools.product(
+            keys, (511, SIZE, 513), (3, 65536 + 3), (1, 2)):
+        yield opening(key, pack, place, (2 * block)[:length])
+
+
+def stored_lines(rng):
+    """The lines of crates/vectors that name one of the four calls, with their
+    stored answers; README.md has the format. `no` alone is a line that no
+    call is made for."""
+    folder = ROOT / "crates" / "vectors"
+    lines = (folder / "stdin").read_bytes().split(b"\n")
+    answers = (folder / "stdout").read_bytes().removesuffix(b"\n").split(b"\n")
+    for line, answer in zip(lines, answers, strict=True):
+        name, *fields = line.split(b" ")
+        if name in STORED and answer != b"no":
+            yield STORED[name](rng, fields, answer)
+
+
+def from_hex(*fields):
+    return [bytes.fromhex(field.decode("ascii")) for field in fields]
+
+
+def outcome(answer, result):
+    """The number and the bytes of a stored answer."""
+    name, _, number = answer.partition(b" ")
+    return (int(number), None) if name == b"no" else (0, *from_hex(result))
+
+
+def stored_hch(name):
+    def read(_, fields, answer):
+        key, tweak, data = from_hex(*fields)
+        number, after = outcome(answer, answer)
+        return case(name, key, tweak, data=data, number=number, after=after)
+    return read
+
+
+def stored_seal(rng, fields, answer):
+    key, pack, place, payload = from_hex(*fields)
+    number, after = outcome(answer, answer)
+    return case("seal", key, payload=payload, data=rng.randbytes(SIZE),
+                pack=int.from_bytes(pack, "big"),
+                place=int.from_bytes(place, "big"), number=number, after=after)
+
+
+def stored_open(_, fields, answer):
+    key, pack, place, block = from_hex(*fields)
+    used, _, plain = answer.partition(b" ")
+    number, after = outcome(answer, plain)
+    return case("open", key, data=block, pack=int.from_bytes(pack, "big"),
+                place=int.from_bytes(place, "big"), number=number,
+                after=after, used=0 if number else int(used))
+
+
+STORED = {b"he": stored_hch("encipher"), b"hd": stored_hch("decipher"),
+          b"ps": stored_seal, b"po": stored_open}
+
+GROUPS = [data_lengths, key_and_tweak_lengths, payloads, lent_blocks,
+          places_and_packs, wrong_blocks, refusals, stored_lines]
+
+
+def lines(group):
+    """The cases of a group, which draws from a generator of its own."""
+    return list(group(random.Random(f"c: {group.__name__}")))

@@ -1,0 +1,40 @@
+// A program in C++ that calls every function of the header, so that each is seen to link there too.
+#include <boards.h>
+
+#include <cstdio>
+#include <cstring>
+
+static bool said(const char *what) {
+    std::printf("%s\n", what);
+    return false;
+}
+
+static bool hch() {
+    const uint8_t key[BOARDS_KEY_SIZE] = {1}, tweak[BOARDS_TWEAK_SIZE] = {2};
+    uint8_t board[20] = {3};
+    uint8_t same[20] = {3};
+    if (boards_encipher(key, sizeof key, tweak, sizeof tweak, board, sizeof board) != BOARDS_DONE)
+        return said("not enciphered");
+    if (std::memcmp(board, same, sizeof board) == 0) return said("enciphered to itself");
+    if (boards_decipher(key, sizeof key, tweak, sizeof tweak, board, sizeof board) != BOARDS_DONE)
+        return said("not deciphered");
+    return std::memcmp(board, same, sizeof board) == 0 || said("deciphered to another board");
+}
+
+static bool block() {
+    const uint8_t key[BOARDS_KEY_SIZE] = {1}, payload[3] = {0x41, 0x42, 0x43};
+    uint8_t block[BOARDS_BLOCK_SIZE];
+    if (boards_seal(key, sizeof key, payload, sizeof payload, 1, 3, block, sizeof block) != BOARDS_DONE)
+        return said("not sealed");
+    if (boards_open(key, sizeof key, 1, 4, block, sizeof block) != BOARDS_CHECK_FAILED)
+        return said("opened as another place");
+    if (boards_open(key, sizeof key, 1, 3, block, sizeof block) != BOARDS_DONE) return said("not opened");
+    if (boards_payload_length(block) != sizeof payload) return said("another length");
+    return std::memcmp(block, payload, sizeof payload) == 0 || said("another payload");
+}
+
+int main() {
+    if (!hch() || !block()) return 1;
+    std::printf("%s\n", boards_reason(BOARDS_DONE));
+    return 0;
+}

@@ -1,0 +1,15 @@
+/* The groups of tests, each a function that prints what it did in one line, or reports what differed. */
+#ifndef GROUPS_H
+#define GROUPS_H
+
+#define COUNT(array) (sizeof(array) / sizeof(array)[0])
+
+void cases(void);   /* the lines of standard input, made by the reference program */
+void order(void);   /* the order of the refusals */
+void opening(void); /* blocks that do not open */
+void slices(void);  /* where the bytes stand, and how many they are */
+void header(void);  /* the constants and the sentences of the header */
+void threads(void); /* eight threads at once */
+void wrong(void);   /* wrong libraries, each of which one of the groups above has to report */
+
+#endif

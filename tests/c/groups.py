@@ -1,0 +1,104 @@
+"""The runs of the client: a group of its tests each, on the cases of cases.py
+where the group reads them.
+"""
+
+import concurrent.futures
+import functools
+import re
+
+import cases
+from build import done
+from harness import Differs, ended
+
+ALONE = {
+    "order": "the order of refusals", "opening": "blocks that do not open",
+    "slices": "where the lent bytes stand",
+    "header": "the header's constants and sentences",
+    "threads": "eight threads", "wrong": "wrong libraries",
+}
+
+
+def make_cases():
+    """The cases of each group, as they come to be. The reference is slow, so
+    that they are made while the library is installed and the client built.
+    """
+    pool = concurrent.futures.ThreadPoolExecutor(max_workers=1)
+    made = {group: pool.submit(cases.lines, group) for group in cases.GROUPS}
+    pool.shutdown(wait=False)
+    return made
+
+
+def answer(client, lines):
+    """What the client says of the cases, and its status."""
+    data = "".join(f"{line}\n" for line in lines).encode("ascii")
+    result = ended([client, "cases"], data)
+    return result.stdout.decode("utf-8", "replace").strip(), result.status
+
+
+def agrees(client, made):
+    """The library does with each case what the reference says."""
+    lines = made.result()
+    said, status = answer(client, lines)
+    if status != 0:
+        at = re.match(r"line (\d+): ", said)
+        line = f" ({lines[int(at[1]) - 1][:80]}..)" if at else ""
+        raise Differs(f"status {status}: {said}{line}")
+    if not said.startswith(f"{len(lines)} lines, "):
+        raise Differs(f"{len(lines)} lines, of which it says {said!r}")
+    return said
+
+
+def other(digits, at):
+    """The same digits but for one of them."""
+    at %= len(digits)
+    return f"{digits[:at]}{int(digits[at], 16) ^ 1:x}{digits[at + 1:]}"
+
+
+def spoilt(line):
+    """The case with something else expected, or as no case at all."""
+    name, key, *middle, number, after, used = line.split(" ")
+    start = [name, key, *middle]
+    yield [*start, str(int(number) + 1), after, used]
+    if after == "=":
+        [_, _, data, _, _] = middle
+        yield [*start, number, other(data, 0), used]
+        yield [*start, number, other(data, -1), used]
+    else:
+        yield [*start, number, other(after, 0), used]
+        yield [*start, number, other(after, -1), used]
+        yield [*start, number, "=", used]
+        yield [name, other(key, 0), *middle, number, after, used]
+        if name == "open":
+            yield [*start, number, after, str(int(used) + 1)]
+    yield [*start, number, after]
+    yield [*start, number, after, used, "0"]
+    yield [name, f"{key}0", *middle, number, after, used]
+    yield [name, f"g{key[1:]}", *middle, number, after, used]
+    yield [name.upper(), key, *middle, number, after, used]
+
+
+def reports_spoilt(client, made):
+    """One call of each function that is done and one that is refused: the
+    client has to report each line that is spoilt."""
+    chosen = {}
+    for line in made.result():
+        name, *_, number, _, _ = line.split(" ")
+        chosen.setdefault((name, number == "0"), line)
+    lines = [" ".join(fields) for line in chosen.values()
+             for fields in spoilt(line)]
+    for line in lines:
+        said, status = answer(client, [line])
+        if status != 1 or not said.startswith("line 1: "):
+            raise Differs(f"says {said!r} of {line[:80]}..")
+    return f"{len(chosen)} calls, {len(lines)} lines"
+
+
+def runs(client, made):
+    """The names and the functions of all runs, on the cases made."""
+    for group in cases.GROUPS:
+        yield group.__name__.replace("_", " "), functools.partial(
+            agrees, client, made[group])
+    yield "cases with something else expected", functools.partial(
+        reports_spoilt, client, made[cases.refusals])
+    for group, name in ALONE.items():
+        yield name, functools.partial(done, [client, group])

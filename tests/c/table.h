@@ -1,0 +1,18 @@
+/* The table of refusals and the order in which each function looks at them. */
+#ifndef TABLE_H
+#define TABLE_H
+
+#include "call.h"
+
+enum { LOOKS = 4 };
+
+/* "HCH looks at 1, 2, 3, 4 in this order. Sealing looks at 1, 7, 5, 6. Opening looks at 1, 7, 6, 8." */
+extern const uint32_t looks[FUNCTIONS][LOOKS];
+
+/* Whether the condition of this number holds; a damaged block is one that fails its check. */
+int applies(uint32_t number, const call *c, int damaged);
+
+/* The number that the call has to answer: the first that applies, or 0. */
+uint32_t first(const call *c, int damaged);
+
+#endif

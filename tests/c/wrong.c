@@ -1,0 +1,197 @@
+/* Wrong libraries, to see that the groups can fail: each does one thing wrong, around the right functions. */
+#define _DEFAULT_SOURCE
+#include "groups.h"
+#include "library.h"
+#include "report.h"
+#include <errno.h>
+#include <limits.h>
+#include <sched.h>
+#include <string.h>
+#include <sys/wait.h>
+#include <unistd.h>
+
+static library right;
+static volatile uint8_t seen;
+
+#define HCH_CALL const uint8_t *key, size_t k, const uint8_t *tweak, size_t t, uint8_t *data, size_t n
+#define HCH key, k, tweak, t, data, n
+#define SEAL_CALL \
+    const uint8_t *key, size_t k, const uint8_t *payload, size_t u, uint64_t pack, uint32_t place, uint8_t *block, \
+    size_t n
+#define SEAL key, k, payload, u, pack, place, block, n
+#define OPEN_CALL const uint8_t *key, size_t k, uint64_t pack, uint32_t place, uint8_t *block, size_t n
+#define OPEN key, k, pack, place, block, n
+
+static uint32_t read_past_key(HCH_CALL) {
+    seen = key[k];
+    return right.encipher(HCH);
+}
+
+static uint32_t read_before_tweak(HCH_CALL) {
+    seen = tweak[-1];
+    return right.decipher(HCH);
+}
+
+static uint32_t read_past_payload(SEAL_CALL) {
+    seen = payload[u];
+    return right.seal(SEAL);
+}
+
+static uint32_t read_empty_data(HCH_CALL) {
+    if (n == 0) seen = data[0];
+    return right.encipher(HCH);
+}
+
+static uint32_t write_key(HCH_CALL) {
+    volatile uint8_t *same = (uint8_t *)key + 3;
+    *same = *same;
+    return right.decipher(HCH);
+}
+
+static uint32_t write_past_data(HCH_CALL) {
+    data[n] ^= 1;
+    return right.decipher(HCH);
+}
+
+/* Only where the block ends with a page. */
+static uint32_t write_past_block(OPEN_CALL) {
+    if ((uintptr_t)(block + n) % 4096 == 0) block[n] ^= 1;
+    return right.open(OPEN);
+}
+
+static uint32_t tweak_before_key(HCH_CALL) { return t != 16 ? 2 : right.encipher(HCH); }
+
+static uint32_t payload_before_block(SEAL_CALL) { return k == 16 && u > 496 ? 5 : right.seal(SEAL); }
+
+static uint32_t check_before_place(OPEN_CALL) {
+    return place > 65535 ? right.open(key, k, pack, 0, block, n) : right.open(OPEN);
+}
+
+static uint32_t change_when_refused(HCH_CALL) {
+    uint32_t number = right.encipher(HCH);
+    if (number == 3 && n > 0) data[n - 1] ^= 1;
+    return number;
+}
+
+static uint32_t write_when_refused(SEAL_CALL) {
+    if (k == 16 && n == 512) block[511] = 0;
+    return right.seal(SEAL);
+}
+
+static uint32_t place_of_16_bits(OPEN_CALL) { return right.open(key, k, pack, place & 0xffff, block, n); }
+
+static uint32_t pack_of_32_bits(SEAL_CALL) {
+    return right.seal(key, k, payload, u, pack & 0xffffffff, place, block, n);
+}
+
+static uint32_t length_of_32_bits(HCH_CALL) { return right.encipher(key, k, tweak, t, data, (uint32_t)n); }
+
+/* "Leaving deciphered bytes behind after number 8." */
+static uint32_t leave_deciphered(OPEN_CALL) {
+    uint8_t tweak[16] = {0};
+    uint32_t number = right.open(OPEN);
+    return number + (number == 8 ? right.decipher(key, k, tweak, 16, block, n) : 0);
+}
+
+static uint32_t open_damaged(OPEN_CALL) {
+    uint32_t number = right.open(OPEN);
+    return number == 8 ? 0 : number;
+}
+
+static uint32_t other_bytes(HCH_CALL) {
+    uint32_t number = right.encipher(HCH);
+    if (number == 0) data[n - 1] ^= 1;
+    return number;
+}
+
+static uint32_t aligned_key(HCH_CALL) { return right.encipher(key - (uintptr_t)key % 8, k, tweak, t, data, n); }
+
+static uint32_t set_errno(SEAL_CALL) {
+    errno = 0;
+    return right.seal(SEAL);
+}
+
+static uint32_t one_key_for_all(HCH_CALL) {
+    static uint8_t kept[16];
+    if (k != 16) return 1;
+    memcpy(kept, key, 16);
+    sched_yield();
+    return right.encipher(kept, 16, tweak, t, data, n);
+}
+
+static uint32_t large_stack(OPEN_CALL) {
+    volatile uint8_t much[PTHREAD_STACK_MIN];
+    for (size_t i = sizeof much; i > 0; i--) much[i - 1] = 0;
+    return right.open(OPEN) + much[0];
+}
+
+/* What is wrong, the group that has to report it, and words of that report. */
+static const struct {
+    const char *name;
+    library library;
+    void (*group)(void);
+    const char *words;
+} mistakes[] = {
+    {"reads past the key", {.encipher = read_past_key}, slices, "at byte 16 of the key, which has 16 bytes"},
+    {"reads before the tweak", {.decipher = read_before_tweak}, slices, "at byte -1 of the tweak"},
+    {"reads past the payload", {.seal = read_past_payload}, slices, "at byte 123 of the payload"},
+    {"reads empty data", {.encipher = read_empty_data}, slices, "data of 0)"},
+    {"writes the key", {.decipher = write_key}, slices, "at byte 3 of the key"},
+    {"writes past the data", {.decipher = write_past_data}, slices, "byte 1000 of the data, which has 1000 bytes, is"},
+    {"writes past the block", {.open = write_past_block}, slices, "at byte 512 of the data"},
+    {"looks at the tweak before the key", {.encipher = tweak_before_key}, order, "answers 2 in the place of 1"},
+    {"looks at the payload before the block", {.seal = payload_before_block}, order, "answers 5 in the place of 7"},
+    {"looks at the check before the place", {.open = check_before_place}, order, "answers 8 in the place of 6"},
+    {"changes data that it refuses", {.encipher = change_when_refused}, order, "byte 0 of the data"},
+    {"changes a block that it refuses", {.seal = write_when_refused}, order, "byte 511 of the data"},
+    {"takes a place by its last 16 bits", {.open = place_of_16_bits}, opening, "in the place of 6"},
+    {"takes a pack by its last 32 bits", {.seal = pack_of_32_bits}, opening, "a payload of 100 bytes"},
+    {"takes a length by its last 32 bits", {.encipher = length_of_32_bits}, slices, "answers 0 in the place of 4"},
+    {"leaves deciphered bytes", {.open = leave_deciphered}, opening, "byte 0 of the data"},
+    {"opens damaged blocks", {.open = open_damaged}, opening, "answers 0 in the place of 8"},
+    {"enciphers wrongly", {.encipher = other_bytes}, opening, "of the data"},
+    {"takes the key for aligned", {.encipher = aligned_key}, slices, "lent at an odd address"},
+    {"sets errno", {.seal = set_errno}, slices, "sets errno to 0"},
+    {"has one key for all threads", {.encipher = one_key_for_all}, threads, "other bytes"},
+    {"needs a large stack", {.open = large_stack}, threads, "fault"},
+};
+
+static void put_in_place(const library *l) {
+    right = boards;
+    if (l->encipher != NULL) boards.encipher = l->encipher;
+    if (l->decipher != NULL) boards.decipher = l->decipher;
+    if (l->seal != NULL) boards.seal = l->seal;
+    if (l->open != NULL) boards.open = l->open;
+}
+
+/* In a process of its own, which the report ends; the report goes into the text. */
+static int status_of(const library *l, void (*group)(void), char *text, size_t size) {
+    int ends[2], status;
+    fflush(stdout);
+    if (pipe(ends) != 0) DIFFERS("no pipe");
+    pid_t process = fork();
+    if (process < 0) DIFFERS("no process");
+    if (process == 0) {
+        dup2(ends[1], STDOUT_FILENO);
+        put_in_place(l);
+        report_signals();
+        group();
+        exit(0);
+    }
+    close(ends[1]);
+    FILE *report = fdopen(ends[0], "r");
+    if (report == NULL || fgets(text, (int)size, report) == NULL) text[0] = 0;
+    waitpid(process, &status, 0);
+    if (report != NULL) fclose(report);
+    return WIFEXITED(status) ? WEXITSTATUS(status) : -1;
+}
+
+void wrong(void) {
+    for (size_t i = 0; i < COUNT(mistakes); i++) {
+        char text[1000];
+        TRYING("a library that %s", mistakes[i].name);
+        int status = status_of(&mistakes[i].library, mistakes[i].group, text, sizeof text);
+        if (status != 1 || strstr(text, mistakes[i].words) == NULL) DIFFERS("status %d, report: %s", status, text);
+    }
+    printf("%zu wrong libraries are reported\n", COUNT(mistakes));
+}
