@@ -33,19 +33,22 @@
  * What is proved. The four functions are written in Rattle, a language in which each function states what it
  * promises, and the archive libboards.a is made only after a checker has accepted a proof of every promise. Proved is
  * that each call ends, touches nothing but the bytes that it is lent, and answers and leaves what is said below, for
- * all arguments; that the bytes are those of HCH as D. Chakraborty and P. Sarkar published it, over AES of FIPS 197;
- * and that no two boards encipher to the same bytes under the same key and tweak. crates/boards/src/lib.rt, in the
- * source, has the promises in full.
+ * all arguments, where HCH and AES are definitions in the source, written line by line from the paper of D. Chakraborty
+ * and P. Sarkar and from FIPS 197; and that no two boards encipher to the same bytes under the same key and tweak.
+ * crates/boards/src/lib.rt, in the source, has the promises in full.
  *
- * Where the proof ends. Not proved are this header (its declarations, its comments and its two inline functions), the
- * compiler that makes the archive, the C library's memcpy and memset, that your pointers and lengths are right, and
- * that HCH is hard to break.
+ * Where the proof ends. Not proved are this header (its declarations, its comments and its two inline functions); that
+ * the definitions are what the papers mean, which a reader can see and vectors from outside test; the compiler that
+ * makes the archive, and the C library's memcpy and memset; that your pointers and lengths are right; and that HCH is
+ * hard to break.
  *
  * Timing. Nothing is promised of the time that a call takes, and no proof speaks of it. AES looks up a table at
  * places that depend on the key and the data: whoever shares a processor's cache with the program may learn something
  * of both. The products in HCH use no table, and no branch that depends on the data was seen in their compiled code.
- * The time of boards_open depends on the payload's length, and a block that it answers 8 for takes twice as long as a
- * good one. Nothing is wiped from the stack. Keys are yours to make, to keep and to wipe.
+ * HCH's own tests, in its source, are on lengths alone. Opening, in its source, looks at every byte of the check where
+ * the payload's length is at most 496. Its time depends on that length, and a block that it answers 8 for takes twice
+ * as long as a good one. The compiled code of HCH and of opening was not searched for other branches. Nothing is wiped
+ * from the stack. Keys are yours to make, to keep and to wipe.
  */
 #ifndef BOARDS_H
 #define BOARDS_H
@@ -53,8 +56,9 @@
 #include <stddef.h>
 #include <stdint.h>
 
-/* The version of the library. */
-#define BOARDS_VERSION "0.6"
+/* The version of the library: 0.6. */
+#define BOARDS_VERSION_MAJOR 0
+#define BOARDS_VERSION_MINOR 6
 
 /* The limits, in bytes but for the last. */
 #define BOARDS_KEY_SIZE 16
@@ -69,11 +73,11 @@
 #define BOARDS_DONE 0                /* the work is done */
 #define BOARDS_WRONG_KEY_SIZE 1      /* key_length is not 16 */
 #define BOARDS_WRONG_TWEAK_SIZE 2    /* tweak_length is not 16 */
-#define BOARDS_DATA_TOO_SHORT 3      /* the data has under 16 bytes */
-#define BOARDS_DATA_TOO_LONG 4       /* the data has over 4,096 bytes */
+#define BOARDS_DATA_TOO_SHORT 3      /* the data is under 16 bytes long */
+#define BOARDS_DATA_TOO_LONG 4       /* the data is over 4,096 bytes long */
 #define BOARDS_PAYLOAD_TOO_LONG 5    /* payload_length is over 496 */
 #define BOARDS_PLACE_TOO_HIGH 6      /* the place is over 65,535 */
-#define BOARDS_WRONG_BLOCK_SIZE 7    /* the block has not 512 bytes */
+#define BOARDS_WRONG_BLOCK_SIZE 7    /* the block is not 512 bytes long */
 #define BOARDS_CHECK_FAILED 8        /* no payload seals to this block under this key, pack and place */
 #define BOARDS_LINE_NOT_UNDERSTOOD 9 /* said by the command boardline alone: no function here answers it */
 
@@ -117,7 +121,8 @@ uint32_t boards_decipher(const uint8_t *key, size_t key_length, const uint8_t *t
  * again for the same pack and place, gives the same block.
  *
  * Answers BOARDS_DONE: block holds the sealed block, the only one that boards_open opens to this payload with this
- * key, pack and place.
+ * key, pack and place. It is the plain block that is described at boards_open, as boards_encipher enciphers it under
+ * the tweak of the pack in 8 bytes, four zeros and the place in 4 bytes, highest byte first.
  * Answers 1, 7, 5 or 6, the first of them that applies, in this order (BOARDS_WRONG_KEY_SIZE,
  * BOARDS_WRONG_BLOCK_SIZE, BOARDS_PAYLOAD_TOO_LONG, BOARDS_PLACE_TOO_HIGH): block is as it was.
  */

@@ -12,7 +12,7 @@ import shutil
 from harness import ROOT, SECONDS, Differs, ended
 
 HERE = pathlib.Path(__file__).resolve().parent
-CC = os.environ.get("CC") or "cc"
+CC = os.environ.get("CC") or "cc"  # one word, as is the other
 CXX = os.environ.get("CXX") or "c++"
 STRICT = ["-O2", "-Wall", "-Wextra", "-Wpedantic", "-Werror"]
 
@@ -109,6 +109,8 @@ class Builder:
         self.compile(CC, "c99", "-c", *HERE.glob("*.c"), *self.includes)
         self.compile(CC, "c99", "-o", self.client, *self.objects, "library.o",
                      *self.archive, "-pthread")
+        if not self.client.exists():
+            raise Differs(f"{CC} has built nothing")
 
     def by_pkg_config(self):
         """The flags of pkg-config are enough, and it knows the version."""

@@ -117,9 +117,9 @@ def lent_blocks(rng):
 def places_and_packs(rng):
     """For opening at a place over 65,535, a block that would pass its check,
     which is looked at last."""
-    key, payload = rng.randbytes(16), rng.randbytes(20)
-    for pack, place in itertools.product(PACKS, PLACES):
-        block = rng.randbytes(SIZE)
+    key = rng.randbytes(16)
+    for length, pack, place in itertools.product((0, 20, MOST), PACKS, PLACES):
+        payload, block = rng.randbytes(length), rng.randbytes(SIZE)
         if place <= LAST_PLACE:
             yield from pair(key, payload, pack, place, block)
         else:

@@ -5,6 +5,7 @@ Blocks are compared with those of tests/reference/pack.py, and what the program
 says of a refusal with the sentence of its number in the installed boards.h.
 """
 
+import contextlib
 import errno
 import functools
 import os
@@ -12,11 +13,13 @@ import pathlib
 import random
 import re
 import resource
+import subprocess
 import tempfile
 
 import pack
 from build import STRICT
-from harness import ROOT, Differs, compare, ended
+from harness import (
+    ROOT, Differs, Ended, compare, ended, shown, started, wait)
 from pack import LAST_PLACE, MOST, SIZE
 
 RNG = random.Random("save: a key and boards")
@@ -28,6 +31,14 @@ BOARDS = {f"b{length}": RNG.randbytes(length)
 DEFINED = re.compile(r"^#define (BOARDS_\w+) (\d+)\b", re.MULTILINE)
 RETURNED = re.compile(r'case (BOARDS_\w+): return "([^"]+)";')
 REFUSED = (1, 6, 7, 8)  # what the program can meet
+
+# What the program says in its own words of a place.
+NO_PLACE = "there is no such place in the pack"
+NO_END = "the end of the last board is missing"
+NOT_WHOLE = ("a board was not saved whole: the disk is full, or another "
+             "program added to the file")
+SAVED = re.compile(rb"\w+: first place (\d+), number of blocks \d+\n")
+NOT_SAVED = re.compile(rb"save: pack: place \d+: (.+)\n")
 
 
 def sentences(prefix):
@@ -80,31 +91,42 @@ class Desk:
     def run(self, *arguments, **options):
         return ended([self.program, *arguments], cwd=self.folder, **options)
 
+    def begins(self, *arguments, key="key"):
+        """The program, with pipes to its three files."""
+        return started(
+            [self.program, key, str(NUMBER), "pack", *arguments],
+            cwd=self.folder, stdin=subprocess.PIPE, stdout=subprocess.PIPE,
+            stderr=subprocess.PIPE)
+
     # What the program has to say.
 
-    def refusal(self, file, number, place=None):
-        at = "" if place is None else f"place {place}: "
-        return f"save: {file}: {at}{self.sentence[number]}\n"
+    def refusal(self, number, place):
+        return said(self.sentence[number], place)
 
-    def report(self, places):
-        """The lines of check. A place is a payload, or a number."""
+    def report(self, answers):
+        """The lines of check, by what opening each place answers."""
         lines = [f"place {place}: "
-                 + (f"good, payload length {len(what)}"
-                    if isinstance(what, bytes) else self.sentence[what])
-                 for place, what in enumerate(places)]
-        bad = sum(not isinstance(what, bytes) for what in places)
-        lines.append(f"number of blocks {len(places)}, not good {bad}")
+                 + (self.sentence[answer] if answer else "good")
+                 for place, answer in enumerate(answers)]
+        bad = sum(answer != 0 for answer in answers)
+        lines.append(f"number of blocks {len(answers)}, not good {bad}")
         return "".join(line + "\n" for line in lines)
 
     # What it does.
 
-    def adds(self, boards, at=0, **options):
+    def adds(self, boards, place=0, **options):
         """Adds boards, from a place on, and is told where they went."""
         first, _ = layout(boards)
         says(self.save("add", *boards, **options), "".join(
-            f"{name}: first place {at + first[name]}, "
-            f"number of blocks {len(payloads(board))}\n"
+            saved(name, place + first[name], board)
             for name, board in boards.items()))
+
+    def adds_not(self, stderr, name="b1", start=0, **options):
+        """The board is refused, and the pack file is as it was, or what it
+        holds from a byte on."""
+        before = self.packed(start)
+        fails(self.save("add", name, **options), stderr)
+        compare("the pack file after add", before, self.packed(start))
 
     def gives(self, place, board, **options):
         says(self.save("get", str(place), **options), board)
@@ -112,18 +134,45 @@ class Desk:
     def gives_not(self, place, stderr, **options):
         fails(self.save("get", str(place), **options), stderr)
 
-    def reports(self, places, **options):
-        good = all(isinstance(what, bytes) for what in places)
-        says(self.save("check", **options), self.report(places),
-             "" if good else "save: pack: not all blocks are good\n",
-             0 if good else 1)
+    def reports(self, answers, end=True, **options):
+        """What check says of blocks with these answers, the last of which is
+        the end of a board or not."""
+        error = ("not all blocks are good" if any(answers)
+                 else "" if end else NO_END)
+        says(self.save("check", **options), self.report(answers),
+             f"save: pack: {error}\n" if error else "", 1 if error else 0)
+
+    # The pack file.
+
+    def packed(self, start=0):
+        with open(self.pack, "rb") as file:
+            file.seek(start)
+            return file.read()
 
     def keeps(self, what, before):
-        compare(f"the pack file after {what}", before, self.pack.read_bytes())
+        compare(f"the pack file after {what}", before, self.packed())
 
     def has_no_pack(self):
         if self.pack.exists():
             raise Differs("a pack file was made")
+
+
+def said(sentence, place, file="pack"):
+    """What the program says of a place."""
+    return f"save: {file}: place {place}: {sentence}\n"
+
+
+def saved(name, place, board):
+    """What it says of a board that it has saved."""
+    return (f"{name}: first place {place}, "
+            f"number of blocks {len(payloads(board))}\n")
+
+
+def finished(process):
+    """What a program that was begun writes from now on."""
+    process.stdin.close()
+    status = wait(process)
+    return Ended(process.stdout.read(), process.stderr.read(), status)
 
 
 def says(result, stdout=b"", stderr=b"", status=0):
@@ -154,10 +203,10 @@ def changed(data, at):
 def all_lengths(desk):
     first, places = layout(BOARDS)
     desk.adds(BOARDS)
-    before = desk.pack.read_bytes()
+    before = desk.packed()
     for name, board in BOARDS.items():
         desk.gives(first[name], board)
-    desk.reports(places)
+    desk.reports([0] * len(places))
     desk.keeps("get and check", before)
     return f"{len(places)} blocks"
 
@@ -165,24 +214,23 @@ def all_lengths(desk):
 def as_the_reference(desk):
     _, places = layout(BOARDS)
     desk.adds(BOARDS)
-    compare("the pack file", b"".join(
+    desk.keeps("add", b"".join(
         pack.seal(KEY, payload, NUMBER, place)
-        for place, payload in enumerate(places)), desk.pack.read_bytes())
+        for place, payload in enumerate(places)))
 
 
 def three_blocks(desk):
-    board = BOARDS["b1236"]
     says(desk.save("add", "b1236"),
          "b1236: first place 0, number of blocks 3\n")
-    compare("the pack file's length", b"1536",
-            b"%d" % desk.pack.stat().st_size)
-    desk.reports([board[:496], board[496:992], board[992:]])
+    compare("the pack file's length", b"1536", b"%d" % len(desk.packed()))
+    says(desk.save("check"), "place 0: good\nplace 1: good\nplace 2: good\n"
+         "number of blocks 3, not good 0\n")
 
 
 def one_by_one(desk):
     """Boards that are added one by one are as those that are added at once."""
     desk.adds(BOARDS)
-    at_once = desk.pack.read_bytes()
+    at_once = desk.packed()
     desk.pack.unlink()
     first, _ = layout(BOARDS)
     for name, board in BOARDS.items():
@@ -203,7 +251,7 @@ def from_a_pipe(desk):
     says(desk.save("add", "/dev/stdin", data=board),
          "/dev/stdin: first place 0, number of blocks 11\n")
     desk.gives(0, board)
-    sealed = desk.pack.read_bytes()
+    sealed = desk.packed()
     desk.adds({"pack": sealed}, 11)
     desk.gives(11, sealed)
 
@@ -224,30 +272,50 @@ def damaged(desk):
     not given."""
     first, places = layout(BOARDS)
     desk.adds(BOARDS)
-    good = desk.pack.read_bytes()
+    good = desk.packed()
     hit, start = "b5000", first["b5000"]
     for place, byte in ((start, 0), (start + 5, 300), (start + 10, 511)):
         desk.put("pack", changed(good, SIZE * place + byte))
-        desk.reports([*places[:place], 8, *places[place + 1:]])
-        desk.gives_not(start, desk.refusal("pack", 8, place))
+        answers = [0] * len(places)
+        answers[place] = 8
+        desk.reports(answers)
+        desk.gives_not(start, desk.refusal(8, place))
         desk.keeps("get and check", changed(good, SIZE * place + byte))
     for name in BOARDS.keys() - {hit}:
         desk.gives(first[name], BOARDS[name])
+
+
+def damaged_last(desk):
+    """Nothing is added behind a damaged block. One that is further in front
+    is not looked at."""
+    boards = {name: BOARDS[name] for name in ("b1236", "b497")}
+    desk.adds(boards)
+    good = desk.packed()
+    for byte in (0, 1, 300, 511):
+        desk.put("pack", changed(good, 4 * SIZE + byte))
+        desk.adds_not(desk.refusal(8, 4))
+    desk.put("pack", good[:4 * SIZE] + bytes(SIZE))
+    desk.adds_not(desk.refusal(8, 4))
+    desk.gives(0, BOARDS["b1236"])
+    desk.put("pack", changed(good, 3 * SIZE))
+    desk.adds({"b1": BOARDS["b1"]}, 5)
+    desk.reports([0, 0, 0, 8, 0, 0])
 
 
 def exchanged(desk):
     """Two blocks of the same length."""
     first, places = layout(BOARDS)
     desk.adds(BOARDS)
-    good = desk.pack.read_bytes()
+    good = desk.packed()
     blocks = [good[at:at + SIZE] for at in range(0, len(good), SIZE)]
     one, other = first["b1236"], first["b5000"] + 1
     blocks[one], blocks[other] = blocks[other], blocks[one]
     desk.put("pack", b"".join(blocks))
-    places[one] = places[other] = 8
-    desk.reports(places)
-    desk.gives_not(one, desk.refusal("pack", 8, one))
-    desk.gives_not(other - 1, desk.refusal("pack", 8, other))
+    answers = [0] * len(places)
+    answers[one] = answers[other] = 8
+    desk.reports(answers)
+    desk.gives_not(one, desk.refusal(8, one))
+    desk.gives_not(other - 1, desk.refusal(8, other))
     desk.gives(first["b992"], BOARDS["b992"])
 
 
@@ -255,19 +323,23 @@ def other_key(desk):
     desk.adds({"b1236": BOARDS["b1236"]})
     desk.put("other", changed(KEY, 15))
     desk.reports([8] * 3, key="other")
-    desk.gives_not(0, desk.refusal("pack", 8, 0), key="other")
+    desk.gives_not(0, desk.refusal(8, 0), key="other")
+    desk.adds_not(desk.refusal(8, 2), key="other")
+    desk.adds({"b1": BOARDS["b1"]}, 3)
 
 
 def other_number(desk):
     desk.adds({"b1236": BOARDS["b1236"]})
     for number in (NUMBER + 1, 0, 2**64 - 1):
         desk.reports([8] * 3, number=number)
-        desk.gives_not(2, desk.refusal("pack", 8, 2), number=number)
+        desk.gives_not(2, desk.refusal(8, 2), number=number)
+        desk.adds_not(desk.refusal(8, 2), number=number)
+    desk.adds({"b1": BOARDS["b1"]}, 3)
 
 
 def key_lengths(desk):
     """A wrong key is told at once, whatever is to be done."""
-    refusal = desk.refusal("key", 1)
+    refusal = f"save: key: {desk.sentence[1]}\n"
     for length in (0, 1, 15, 17, 32, 10000):
         desk.put("key", (KEY * 625)[:length])
         fails(desk.save("add", "b1"), refusal)
@@ -281,97 +353,165 @@ def key_lengths(desk):
 
 
 def cut(desk):
-    """A pack file that ends within a block."""
-    boards = {name: BOARDS[name] for name in ("b1", "b1236")}
-    desk.adds(boards)
-    good = desk.pack.read_bytes()
-    for length in (4 * SIZE - 1, 3 * SIZE + 1):
-        desk.put("pack", good[:length])
-        desk.reports([*layout(boards)[1][:3], 7])
-        desk.gives_not(1, desk.refusal("pack", 7, 3))
-        desk.gives(0, BOARDS["b1"])
-        fails(desk.save("add", "b1"), desk.refusal("pack", 7, 3))
-        desk.keeps("all that", good[:length])
+    """A pack file that ends within a block: nothing is added, and the boards
+    in front of it are given."""
+    desk.adds({name: BOARDS[name] for name in ("b1", "b1236")})
+    good = desk.packed()
+    for place in (1, 2, 3):
+        for left in (1, SIZE - 1):
+            desk.put("pack", good[:SIZE * place + left])
+            desk.reports([0] * place + [7])
+            desk.gives_not(1, desk.refusal(7, place))
+            desk.adds_not(desk.refusal(7, place))
+            desk.gives(0, BOARDS["b1"])
 
 
 def no_end(desk):
-    """A pack file that ends within a board, but with a whole block."""
-    desk.adds({"b1236": BOARDS["b1236"]})
-    desk.put("pack", desk.pack.read_bytes()[:2 * SIZE])
-    desk.gives_not(0, "save: pack: the board has no end\n")
-    desk.reports(payloads(BOARDS["b1236"])[:2])
+    """A pack file that ends within a board, but with a whole block; and one
+    that ends with a board, which is as good as any."""
+    boards = {name: BOARDS[name] for name in ("b1", "b1236")}
+    desk.adds(boards)
+    good = desk.packed()
+    for blocks in (2, 3):
+        desk.put("pack", good[:SIZE * blocks])
+        desk.gives_not(1, said(NO_PLACE, blocks))
+        desk.adds_not(said(NO_END, blocks - 1))
+        desk.adds_not(said(NO_END, blocks - 1), "b0")
+        desk.gives(0, BOARDS["b1"])
+        desk.reports([0] * blocks, end=False)
+    desk.put("pack", good[:SIZE])
+    desk.adds({"b1236": BOARDS["b1236"]}, 1)
+    desk.keeps("add", good)
+    desk.put("pack", b"")
+    desk.adds(boards)
+    desk.keeps("add", good)
 
 
 # Places.
 
 def past_the_end(desk):
-    none = "save: pack: there is no such place in the pack\n"
     desk.adds({"b1236": BOARDS["b1236"]})
-    for place in (3, 4, 1000, LAST_PLACE):
-        desk.gives_not(place, none)
-    for place in (LAST_PLACE + 1, 2**31, 2**32 - 1):
-        desk.gives_not(place, desk.refusal("pack", 6, place))
+    for place in (3, 4, 1000, LAST_PLACE, LAST_PLACE + 1, 2**31, 2**32 - 1):
+        desk.gives_not(place, said(NO_PLACE, place))
     desk.put("pack", b"")
-    desk.gives_not(0, none)
+    desk.gives_not(0, said(NO_PLACE, 0))
     desk.reports([])
 
 
+def hollow(desk, places, length=None):
+    """A pack file of some blocks, with holes between, and of some length."""
+    with open(desk.pack, "wb") as file:
+        for place, payload in places.items():
+            file.seek(SIZE * place)
+            file.write(pack.seal(KEY, payload, NUMBER, place))
+        file.truncate(length)
+
+
 def last_places(desk):
-    """The places before the last one are a hole in the file."""
-    def sized(length):
-        with open(desk.pack, "wb") as file:
-            file.truncate(length)
-
-    def keeps(length):
-        if desk.pack.stat().st_size != length:
-            raise Differs(f"the pack file has {desk.pack.stat().st_size} "
-                          f"bytes in the place of {length}")
-
-    full = SIZE * (LAST_PLACE + 1)
-    sized(full - SIZE)
+    start = SIZE * (LAST_PLACE - 1)
+    hollow(desk, {LAST_PLACE - 1: b""})
+    refusal = desk.refusal(6, LAST_PLACE + 1)
     for name in ("b496", "b5000"):
-        fails(desk.save("add", name), desk.refusal(name, 6, LAST_PLACE + 1))
-        keeps(full - SIZE)
+        desk.adds_not(refusal, name, start)
     desk.adds({"b495": BOARDS["b495"]}, LAST_PLACE)
-    keeps(full)
-    desk.gives(LAST_PLACE, BOARDS["b495"])
     for name in ("b0", "b495", "b496"):
-        fails(desk.save("add", name), desk.refusal(name, 6, LAST_PLACE + 1))
-        keeps(full)
+        desk.adds_not(refusal, name, start)
+    desk.gives(LAST_PLACE - 1, b"")
     desk.gives(LAST_PLACE, BOARDS["b495"])
+    hollow(desk, {LAST_PLACE - 2: b""})
+    desk.adds({"b496": BOARDS["b496"]}, LAST_PLACE - 1)
+    desk.gives(LAST_PLACE - 1, BOARDS["b496"])
+    desk.adds_not(refusal, "b0", start)
 
-    # A board that would go on behind the last place.
-    with open(desk.pack, "r+b") as file:
-        file.seek(full - SIZE)
-        file.write(pack.seal(KEY, BOARDS["b496"], NUMBER, LAST_PLACE))
-    desk.gives_not(LAST_PLACE, "save: pack: the board has no end\n")
-    with open(desk.pack, "ab") as file:
-        file.write(bytes(SIZE))
-    desk.gives_not(LAST_PLACE, desk.refusal("pack", 6, LAST_PLACE + 1))
 
-    # Files that are far too long; not every file system has the last one.
-    for length in (full + 1, full + SIZE, full + 2**32 * SIZE):
+def too_long(desk):
+    """A board without its end at the last place, and then more behind it; not
+    every file system has the two longest files."""
+    places = {0: b"", LAST_PLACE: BOARDS["b496"]}
+    full = SIZE * (LAST_PLACE + 1)
+    hollow(desk, places)
+    desk.gives_not(LAST_PLACE, said(NO_PLACE, LAST_PLACE + 1))
+    desk.adds_not(said(NO_END, LAST_PLACE), start=full - SIZE)
+    for length, number in ((full + 1, 7), (full + SIZE, 6),
+                           (SIZE * 2**32, 6), (SIZE * (2**32 + 1), 6)):
         try:
-            sized(length)
+            hollow(desk, places, length)
         except OSError:
             continue
-        fails(desk.save("add", "b0"), desk.refusal("b0", 6, LAST_PLACE + 1))
-        keeps(length)
+        refusal = desk.refusal(number, LAST_PLACE + 1)
+        desk.gives_not(LAST_PLACE, refusal)
+        desk.gives_not(LAST_PLACE + 1, refusal)
+        desk.adds_not(refusal, start=length - SIZE)
 
 
 def endless(desk):
     """A board without end is refused at the place after the last one, and all
-    of the program's room was used by then."""
-    fails(desk.save("add", "/dev/zero"),
-          desk.refusal("/dev/zero", 6, LAST_PLACE + 1))
-    desk.has_no_pack()
+    of the program's room was used by then. The pack file is made, and stays
+    empty."""
+    fails(desk.save("add", "/dev/zero"), desk.refusal(6, LAST_PLACE + 1))
+    desk.keeps("add", b"")
+    desk.reports([])
+    desk.adds({"b1": BOARDS["b1"]})
+
+
+# Programs that add to one pack file at once.
+
+def another_between(desk):
+    """A pipe holds 65,536 bytes: when more have been written to it, the
+    program has begun to read its board, and has looked for its place before.
+    Then another one adds a board."""
+    board = bytes(2**16 + 1)
+    desk.adds({"b1": BOARDS["b1"]})
+    with desk.begins("add", "/dev/stdin") as process:
+        process.stdin.write(board)
+        desk.adds({"b1236": BOARDS["b1236"]}, 1)
+        fails(finished(process), said(NOT_WHOLE, 1))
+    desk.gives(0, BOARDS["b1"])
+    desk.gives(1, BOARDS["b1236"])
+    desk.adds_not(desk.refusal(8, 3 + len(payloads(board))))
+
+
+def saved_or_told(desk, name, board, result):
+    """The board is where the program says that it is, or the program says why
+    it is not saved. Returns whether it is."""
+    if told := SAVED.fullmatch(result.stdout):
+        says(result, saved(name, int(told[1]), board))
+        desk.gives(int(told[1]), board)
+        return True
+    told = NOT_SAVED.fullmatch(result.stderr)
+    if told is None or told[1].decode("ascii") not in (
+            NOT_WHOLE, NO_END, desk.sentence[7], desk.sentence[8]):
+        raise Differs(f"standard error is {shown(result.stderr)}")
+    fails(result, result.stderr)
+    return False
+
+
+def many_at_once(desk):
+    """Programs that wait for the end of their key, which comes to all of them
+    at once. Each board is another one."""
+    rng = random.Random("save: boards at once")
+    boards = {f"c{length}": rng.randbytes(length)
+              for length in range(1, 6000, 500)}
+    for name, board in boards.items():
+        desk.put(name, board)
+    with contextlib.ExitStack() as stack:
+        processes = [stack.enter_context(
+            desk.begins("add", name, key="/dev/stdin")) for name in boards]
+        for process in processes:
+            process.stdin.write(KEY)
+        for process in processes:
+            process.stdin.close()
+        results = [finished(process) for process in processes]
+    count = sum(saved_or_told(desk, name, board, result)
+                for (name, board), result in zip(boards.items(), results))
+    return f"{count} of {len(boards)} boards saved"
 
 
 # Other calls, and reads and writes that fail.
 
 def usage(desk):
     desk.adds({"b1": BOARDS["b1"]})
-    before = desk.pack.read_bytes()
+    before = desk.packed()
     bad = ("", "-1", "+1", " 1", "1 ", "1x", "0x1", "1.0", "1e3", "x", "\t1",
            "1\n", "--1", "99999999999999999999999")
     calls = [
@@ -396,22 +536,25 @@ def usage(desk):
 
 
 def files_that_fail(desk):
-    """Files that are missing, and a directory in their place."""
+    """Files that are missing, and a directory in their place. Where a board
+    cannot be opened no pack file is made, and an empty one where it cannot be
+    read."""
     missing = reason(errno.ENOENT)
     directory = reason(errno.EISDIR)
     for key, what in (("none", missing), (".", directory)):
         fails(desk.save("add", "b1", key=key), f"save: {key}: {what}\n")
-        fails(desk.save("add", key), f"save: {key}: {what}\n")
-    fails(desk.save("add", ""), f"save: : {missing}\n")
+    for name in ("none", ""):
+        fails(desk.save("add", name), f"save: {name}: {missing}\n")
     desk.has_no_pack()
     for command in (["get", "0"], ["check"]):
         fails(desk.save(*command), f"save: pack: {missing}\n")
         desk.has_no_pack()
-    fails(desk.save("add", "b1", pack="."), f"save: .: {directory}\n")
+    fails(desk.save("add", "."), f"save: .: {directory}\n")
+    desk.keeps("add", b"")
+    for command in (["add", "b1"], ["get", "0"], ["check"]):
+        fails(desk.save(*command, pack="."), f"save: .: {directory}\n")
     fails(desk.save("add", "b1", pack="none/pack"),
           f"save: none/pack: {missing}\n")
-    fails(desk.save("get", "0", pack="."), f"save: .: {directory}\n")
-    says(desk.save("check", pack="."), b"", f"save: .: {directory}\n", 1)
 
 
 def one_of_three(desk):
@@ -419,7 +562,8 @@ def one_of_three(desk):
     says(desk.save("add", "b1236", "none", "b1"),
          "b1236: first place 0, number of blocks 3\n",
          f"save: none: {reason(errno.ENOENT)}\n", 1)
-    desk.reports(payloads(BOARDS["b1236"]))
+    desk.reports([0] * 3)
+    desk.gives(0, BOARDS["b1236"])
 
 
 def full_output(desk):
@@ -434,24 +578,25 @@ def full_output(desk):
 
 
 def full_pack(desk):
-    """A device that is full, and a file that may grow by half a block, or by
-    two: the program says where the part begins that it has left."""
+    """A device that is full, and a file that may grow by less than a board:
+    the program says so, and nothing is added behind what it has left."""
     fails(desk.save("add", "b5000", pack="/dev/full"),
-          f"save: /dev/full: {reason(errno.ENOSPC)}: "
-          "part of a board may be left from place 0 on\n")
+          said(NOT_WHOLE, 0, "/dev/full"))
     desk.adds({"b1": BOARDS["b1"]})
-    good = desk.pack.read_bytes()
-    for room in (SIZE // 2, 2 * SIZE):
+    good = desk.packed()
+    for room, then in ((SIZE // 2, desk.refusal(7, 1)),
+                       (2 * SIZE, said(NO_END, 2)),
+                       (8 * SIZE, said(NO_END, 8)),
+                       (11 * SIZE - 1, desk.refusal(7, 11))):
         most = len(good) + room
         fails(desk.save(
             "add", "b5000", restore_signals=False,
             preexec_fn=lambda: resource.setrlimit(
-                resource.RLIMIT_FSIZE, (most, most))),
-            f"save: pack: {reason(errno.EFBIG)}: "
-            "part of a board may be left from place 1 on\n")
+                resource.RLIMIT_FSIZE, (most, most))), said(NOT_WHOLE, 1))
         compare("the pack file before that place", good,
-                desk.pack.read_bytes()[:len(good)])
+                desk.packed()[:len(good)])
         desk.gives(0, BOARDS["b1"])
+        desk.adds_not(then)
         desk.put("pack", good)
 
 
@@ -464,6 +609,7 @@ RUNS = {
     "a board from a pipe, and the pack file as one": from_a_pipe,
     "the edges of the pack number": numbers,
     "a damaged block": damaged,
+    "a damaged block at the end": damaged_last,
     "two blocks exchanged": exchanged,
     "another key": other_key,
     "another pack number": other_number,
@@ -472,7 +618,10 @@ RUNS = {
     "a pack file cut within a board": no_end,
     "places past the end": past_the_end,
     "the places 65,535 and 65,536": last_places,
+    "pack files that are too long": too_long,
     "a board without end": endless,
+    "a board that another program adds meanwhile": another_between,
+    "twelve programs at once": many_at_once,
     "bad usage": usage,
     "files that cannot be opened or read": files_that_fail,
     "one board of three that fails": one_of_three,
