@@ -102,21 +102,26 @@ module _ (E D : List ℕ → List ℕ → List ℕ → List ℕ) (key : List ℕ
         (rw deciphered-sealed (passes-plain payload pack place h))
         ∙ rw (deciphered-sealed, used-plain payload pack place h)
 
-  -- What passes its check was sealed.
+  -- What passes its check was sealed: C deciphers to B, whose payload is within the limits and seals to C.
+  record FromPayload (C B : List ℕ) : Type 0 where
+    payload-bytes : Bytes (payloadOf B)
+    used-limit : used B ≤ 496
+    payload-length : length (payloadOf B) ≤ 496
+    seals : seal E key (payloadOf B) pack place ≡ C
+
   sealed-passed : (C : List ℕ) → OfLength 512 C → passes pack place (decipheredBlock D key pack place C) ≡ true
-      → let B = decipheredBlock D key pack place C in
-      let payload = payloadOf B in
-      Bytes payload × (used B ≤ 496) × (length payload ≤ 496) × (seal E key payload pack place ≡ C)
+      → FromPayload C (decipheredBlock D key pack place C)
   unfolding seal decipheredBlock
   sealed-passed C h e =
       let B = D key (tweak pack place) C in
       let k = at-tweak .inverse-keeps C h in
-      let only = passes-only pack place B (k .0) e in (
-        below-take (used B) B (k .1),
-        only .0,
-        rw (length-take-le (used B) B (omega (arith, k .0, only .0))) (only .0),
-        rw (sym (only .1)) (at-tweak .undoes C h),
-      )
+      let only = passes-only pack place B (k .0) e in
+      record {
+        payload-bytes = below-take (used B) B (k .1);
+        used-limit = only .0;
+        payload-length = rw (length-take-le (used B) B (omega (arith, k .0, only .0))) (only .0);
+        seals = rw (sym (only .1)) (at-tweak .undoes C h);
+      }
 
   pub only-sealed : (payload C : List ℕ) → OfLength 512 C → opensTo D key payload pack place C ≡ true → C ≡ seal E key payload pack place
   unfolding opensTo
@@ -132,7 +137,7 @@ module _ (E D : List ℕ → List ℕ → List ℕ → List ℕ) (key : List ℕ
       let u : used B ≡ n = ap (λ (s : List ℕ). getD s 0 0) (equal-true (used B ∷ []) (n ∷ []) (rw d at (returned .1))) in
       let same : equal (take n B) payload ≡ true = rw d at (parts .1) in
       let front : payloadOf B ≡ payload = rw u (equal-true (take n B) payload same) in
-      sym (rw front at (sealed-passed C h (a .passed) .3))
+      sym (rw front at (sealed-passed C h (a .passed) .seals))
 
   pub one-block : (payload : List ℕ) → length key ≡ 16 → WithinLimits payload place → OneBlock D key payload pack place (seal E key payload pack place)
   unfolding opensTo
@@ -157,7 +162,7 @@ module _ (E D : List ℕ → List ℕ → List ℕ → List ℕ) (key : List ℕ
   fails C k h l none true e =
       let B = decipheredBlock D key pack place C in
       let s = sealed-passed C h e in
-      absurd (none (payloadOf B) (s .0) (s .2) (s .3))
+      absurd (none (payloadOf B) (s .payload-bytes) (s .payload-length) (s .seals))
 
   no-payload : (C : List ℕ) → numberOf (answerOf D key pack place C) ≡ 8 → NoPayload E key pack place C
   no-payload C e payload b h s =
@@ -180,16 +185,16 @@ module _ (E D : List ℕ → List ℕ → List ℕ → List ℕ) (key : List ℕ
       let number = numberOf (answerOf D key pack place C) in
       let known : number ≡ 0 → Admitted D key pack place C = admitted D key pack place C in
       let left : number ≡ 0 → leftBy number B C ≡ B = λ e. rw (done D key pack place C (known e)) in
-      let whole : number ≡ 0 → Bytes (payloadOf B) × (used B ≤ 496) × (length (payloadOf B) ≤ 496) × (seal E key (payloadOf B) pack place ≡ C) =
-      λ e. let a = known e in sealed-passed C (a .block-length, b) (a .passed) in
+      let whole : number ≡ 0 → FromPayload C B = λ e. let a = known e in sealed-passed C (a .block-length, b) (a .passed) in
       record {
-        used-limit = λ e. rw (left e) (whole e .1);
-        sealed = λ e. rw (left e) (whole e .3);
+        used-limit = λ e. rw (left e) (whole e .used-limit);
+        sealed = λ e. rw (left e) (whole e .seals);
         one-block = λ e.
             let a = known e in
             let w = whole e in
-            let limits : WithinLimits (payloadOf B) place = record { payload-bytes = w .0; payload-length = w .2; place-limit = a .place-limit } in
-            let one : OneBlock D key (payloadOf B) pack place C = rw (w .3) at (one-block (payloadOf B) (a .key-length) limits) in
+            let limits : WithinLimits (payloadOf B) place =
+            record { payload-bytes = w .payload-bytes; payload-length = w .payload-length; place-limit = a .place-limit } in
+            let one : OneBlock D key (payloadOf B) pack place C = rw (w .seals) at (one-block (payloadOf B) (a .key-length) limits) in
             rw (left e) one;
         eight = λ k l h. eight C k (l, b) h;
       }
