@@ -4,10 +4,10 @@ use Prim.Native.Nat.{ℕ, _/_, _<_}
 use mathlib.Core.Path.{_≡_, ap₂, _∙_}
 use native.Mathlib.Omega.{arith}
 use lib.Dec.{lit<}
-use Rattle.blocks.specs.Xor.{_⊕_}
+use Rattle.strings.specs.Xor.{_⊕_}
 use Rattle.blocks.specs.Field.{times01, timesX, productN, product, Ring}
-use Rattle.blocks.specs.Aes.{Byte, _·_, mixed, invMixed}
-use Rattle.blocks.proofs.Xor.{xor-laws, xor-below, xor-zero, xor-zero-left}
+use Rattle.blocks.specs.Aes.{Byte, _•_, mixed, invMixed}
+use Rattle.strings.proofs.Xor.{xor-laws, xor-below, xor-zero, xor-zero-left}
 use Rattle.blocks.proofs.Ring.{Additive, x-add, x-zero, x-below, ring-of-bytes}
 
 -- ---- over any additive x: a column mixed twice is itself plus x ^ 2 times its sum with itself two rows on, and mixed four times itself
@@ -55,7 +55,7 @@ abbrev x : ℕ → ℕ
 x = timesX 8 0x1b
 
 -- the constants have four digits
-times : (k a : ℕ) → k < 16 → Byte a → k · a ≡ productN 8 0x1b 4 a k
+times : (k a : ℕ) → k < 16 → Byte a → k • a ≡ productN 8 0x1b 4 a k
 unfolding product productN times01
 times k a hk ha =
     let e : k / 2 / 2 / 2 / 2 ≡ 0 = omega arith in

@@ -6,12 +6,15 @@ use mathlib.Core.List.{List, [], _∷_, _++_, append-assoc}
 use native.Mathlib.Omega.{arith}
 use lib.ListN.{length, take, drop, length-append, length-take, length-drop}
 use lib.Seq.{drop-drop}
-use Rattle.blocks.specs.Xor.{_⊕_, xorBytes}
-use Rattle.blocks.specs.Bytes.{Bytes, OfLength, bytes, block, cut, blocks, string, overwrite}
-use Rattle.blocks.specs.Permutation.{Cipher}
+use Rattle.strings.specs.Xor.{_⊕_, xorBytes}
+use Rattle.strings.specs.Bytes.{Bytes, OfLength, bytes}
+use Rattle.strings.specs.Inner.{overwrite}
+use Rattle.blocks.specs.Blocks.{firstBlock, cut, blocks, string}
+use Rattle.strings.specs.Cipher.{Cipher}
 use Rattle.blocks.specs.Counter.{masked, maskedBytes}
-use Rattle.blocks.proofs.Bytes.{below-append, below-drop, below-take, length-bytes, bytes-below, bytes-number, bytes-xor, xorBytes-cancel, xorBytes-append, take-xorBytes, padded, length-padded, padded-below, padded-add, take-padded, take-append, block-padded, blocks-cons, length-blocks}
-use Rattle.blocks.proofs.Place.{take-overwrite, drop-overwrite}
+use Rattle.strings.proofs.Bytes.{below-append, below-drop, below-take, length-bytes, bytes-below, bytes-number, bytes-xor, xorBytes-cancel, xorBytes-append, take-xorBytes, padded, length-padded, padded-below, padded-add, take-padded, take-append}
+use Rattle.blocks.proofs.Blocks.{block-padded, blocks-cons, length-blocks}
+use Rattle.strings.proofs.Place.{take-overwrite, drop-overwrite}
 
 -- Blocks as a string.
 length-string : (bs : List ℕ) → length (string bs) ≡ 16 * length bs
@@ -24,7 +27,7 @@ unfolding string
 string-below [] i = omega arith
 string-below (b ∷ bs) i = below-append (bytes 16 b) (string bs) (bytes-below 16 b) (string-below bs) i
 
-block-bytes : (s : List ℕ) → Bytes s → bytes 16 (block s) ≡ padded 16 s
+block-bytes : (s : List ℕ) → Bytes s → bytes 16 (firstBlock s) ≡ padded 16 s
 block-bytes s h = rw block-padded (rw length-padded at (bytes-number (padded 16 s) (padded-below 16 s h)))
 
 string-cut : (m : ℕ) (s : List ℕ) → Bytes s → string (cut m s) ≡ padded (16 * m) s
@@ -89,18 +92,18 @@ module _ (mask : ℕ → ℕ) where
   masked-nil i = refl
 
   masked-cons : (i : ℕ) (s : List ℕ) → 0 < length s
-      → maskedBytes mask i s ≡ take (length s) (bytes 16 (block s ⊕ mask i)) ++ maskedBytes mask (suc i) (drop 16 s)
+      → maskedBytes mask i s ≡ take (length s) (bytes 16 (firstBlock s ⊕ mask i)) ++ maskedBytes mask (suc i) (drop 16 s)
   unfolding maskedBytes masked string
   masked-cons i s h =
-      rw (blocks-cons s h, take-append (length s) (bytes 16 (block s ⊕ mask i)), length-bytes, length-drop)
+      rw (blocks-cons s h, take-append (length s) (bytes 16 (firstBlock s ⊕ mask i)), length-bytes, length-drop)
 
   -- On a string's own bytes: one block is written where it was read, and the rest is to be done.
   pub masked-next : (i at : ℕ) (s : List ℕ) → at < length s
-      → let s′ = overwrite at (bytes 16 (block (drop at s) ⊕ mask i)) s in
+      → let s′ = overwrite at (bytes 16 (firstBlock (drop at s) ⊕ mask i)) s in
       take (at + 16) s′ ++ maskedBytes mask (suc i) (drop (at + 16) s′) ≡ take at s ++ maskedBytes mask i (drop at s)
   masked-next i at s h =
-      let b : List ℕ = bytes 16 (block (drop at s) ⊕ mask i) in
-      let l : length b ≡ 16 = length-bytes 16 (block (drop at s) ⊕ mask i) in
+      let b : List ℕ = bytes 16 (firstBlock (drop at s) ⊕ mask i) in
+      let l : length b ≡ 16 = length-bytes 16 (firstBlock (drop at s) ⊕ mask i) in
       let front : take (at + 16) (overwrite at b s) ≡ take at s ++ take (length s - at) b = rw l at (take-overwrite at b s) in
       let rest : drop (at + 16) (overwrite at b s) ≡ drop (at + 16) s = rw l at (drop-overwrite at b s) in
       rw (

@@ -6,10 +6,10 @@ use native.Mathlib.Nat.{zero-lt-suc, mul-comm, zero-mul, add-comm, add-mul-div-r
 use native.Mathlib.Omega.{arith}
 use lib.Arith.{digits-lt, digits-div, digits-mod, mod-mul}
 use lib.Pow.{pow-pos, pow-add, high, mod-pow-add, shr-shr}
-use Rattle.blocks.specs.Xor.{_⊕_}
-use Rattle.blocks.specs.Block.{value}
+use Rattle.strings.specs.Xor.{_⊕_}
+use Rattle.blocks.specs.Inner.{value}
 use Rattle.blocks.specs.declared.block.Block.{Block}
-use Rattle.blocks.proofs.Xor.{xor-comm, xor-disjoint, xor-parts, xor-zero}
+use Rattle.strings.proofs.Xor.{xor-comm, xor-disjoint, xor-parts, xor-zero}
 
 -- a number of w digits above a number of w digits has w + w digits
 halves-below : (w : ℕ) {hi lo : ℕ} → hi < 2 ^ w → lo < 2 ^ w → hi * 2 ^ w + lo < 2 ^ (w + w)

@@ -5,10 +5,11 @@ use mathlib.Core.List.{List, [], _∷_}
 use Prim.Native.Nat.{ℕ, zero, suc, _^_, _<_}
 use lib.ListN.{length}
 use lib.Pow.{pow-pos}
-use Rattle.blocks.specs.Xor.{_⊕_}
-use Rattle.blocks.specs.Bytes.{Below}
-use Rattle.blocks.specs.Field.{power, powerSum, horner, Ring}
-use Rattle.blocks.proofs.Xor.{xor-assoc, xor-below, xor-zero, xor-zero-left}
+use Rattle.strings.specs.Xor.{_⊕_}
+use Rattle.strings.specs.Bytes.{Below}
+use Rattle.blocks.specs.Field.{power, powerSum, Ring}
+use Rattle.blocks.specs.Inner.{horner}
+use Rattle.strings.proofs.Xor.{xor-assoc, xor-below, xor-zero, xor-zero-left}
 
 module _ {k one : ℕ} {_·_ : ℕ → ℕ → ℕ} (ring : Ring k one _·_) where
   infixl 70 _·_

@@ -6,28 +6,28 @@ use Prim.Native.Nat.{ℕ, zero, suc, _/_, _%_, _^_, _<_}
 use native.Mathlib.Nat.{mod-lt, mod-eq-of-lt, le-of-suc-le-suc, not-suc-le-zero, zero-lt-suc}
 use lib.Dec.{lit<}
 use lib.ListN.{getD}
-use Rattle.blocks.specs.Xor.{_⊕_}
+use Rattle.strings.specs.Xor.{_⊕_}
 use Rattle.blocks.specs.Field.{times01, timesX, productN, product, Ring}
-use Rattle.blocks.specs.Aes.{Byte, _·_, squares, inverse}
-use Rattle.blocks.proofs.Xor.{xor-laws, xor-mod}
+use Rattle.blocks.specs.Aes.{Byte, _•_, squares, inverse}
+use Rattle.strings.proofs.Xor.{xor-laws, xor-mod}
 use Rattle.blocks.proofs.Ring.{basis, ring-of-bytes}
-use Rattle.blocks.proofs.Table.{table, same}
+use Rattle.strings.proofs.Table.{table, same}
 open Ring ring-of-bytes using (below, add-left, add-right, zero-left, one-left, one-right, comm, assoc)
 
 -- ---- a ^ 256 is a: squaring is additive, and eight squarings leave each power of two as it is
 
-square-add : (a b : ℕ) → Byte a → Byte b → (a ⊕ b) · (a ⊕ b) ≡ a · a ⊕ b · b
+square-add : (a b : ℕ) → Byte a → Byte b → (a ⊕ b) • (a ⊕ b) ≡ a • a ⊕ b • b
 square-add a b ha hb = simp (add-left, add-right, comm b a hb ha, xor-laws)
 
 -- a after n squarings
 raised : ℕ → ℕ → ℕ
 raised zero a = a
-raised (suc n) a = raised n (a · a)
+raised (suc n) a = raised n (a • a)
 
 raised-add : (n a b : ℕ) → Byte a → Byte b → raised n (a ⊕ b) ≡ raised n a ⊕ raised n b
 unfolding raised
 raised-add zero a b ha hb = refl
-raised-add (suc n) a b ha hb = rw (square-add a b ha hb) (raised-add n (a · a) (b · b) (below a a ha) (below b b hb))
+raised-add (suc n) a b ha hb = rw (square-add a b ha hb) (raised-add n (a • a) (b • b) (below a a ha) (below b b hb))
 
 raised-powers : table (λ i. raised 8 (2 ^ i % 256)) 8 0 ≡ table (λ i. 2 ^ i) 8 0
 unfolding raised product productN timesX times01 _⊕_
@@ -47,13 +47,13 @@ raised-eight a h =
 squares-below : (n a : ℕ) → Byte a → Byte (squares n a)
 unfolding squares
 squares-below zero a h = lit< tt
-squares-below (suc n) a h = below (a · a) (squares n (a · a)) (below a a h)
+squares-below (suc n) a h = below (a • a) (squares n (a • a)) (below a a h)
 
-squares-top : (n a : ℕ) → Byte a → squares n a · (a · a) ≡ raised (suc n) a
+squares-top : (n a : ℕ) → Byte a → squares n a • (a • a) ≡ raised (suc n) a
 unfolding squares raised
-squares-top zero a h = one-left (a · a) (below a a h)
+squares-top zero a h = one-left (a • a) (below a a h)
 squares-top (suc n) a h =
-    let q : ℕ = a · a in
+    let q : ℕ = a • a in
     let hq : Byte q = below a a h in
     let hs : Byte (squares n q) = squares-below n q hq in
     rw (comm q (squares n q) hq hs) (assoc (squares n q) q q hs hq hq ∙ squares-top n q hq)
@@ -62,14 +62,14 @@ pub inverse-below : (a : ℕ) → Byte a → Byte (inverse a)
 unfolding inverse
 inverse-below = squares-below 7
 
-pub inverse-of : (a b : ℕ) → Byte a → Byte b → a · b ≡ 1 → inverse a ≡ b
+pub inverse-of : (a b : ℕ) → Byte a → Byte b → a • b ≡ 1 → inverse a ≡ b
 unfolding inverse
 inverse-of a b ha hb e =
     let x : ℕ = inverse a in
     let hx : Byte x = inverse-below a ha in
-    let back : (y : ℕ) → Byte y → y · a · b ≡ y = λ y hy. assoc y a b hy ha hb ∙ rw e (one-right y hy) in
-    let top : x · (a · a) ≡ a = squares-top 7 a ha ∙ raised-eight a ha in
-    cc (back x hx, back (x · a) (below x a hx), assoc x a a hx ha ha, one-left b hb)
+    let back : (y : ℕ) → Byte y → y • a • b ≡ y = λ y hy. assoc y a b hy ha hb ∙ rw e (one-right y hy) in
+    let top : x • (a • a) ≡ a = squares-top 7 a ha ∙ raised-eight a ha in
+    cc (back x hx, back (x • a) (below x a hx), assoc x a a hx ha ha, one-left b hb)
 
 -- ---- the inverses
 
@@ -98,12 +98,12 @@ abbrev pub looked-up : ℕ → ℕ
 unfolding inverses
 looked-up a = getD (getD inverses (a / 16) []) (a % 16) 0 % 256
 
-products : table (λ i. suc i · looked-up (suc i)) 255 0 ≡ table (λ i. 1) 255 0
+products : table (λ i. suc i • looked-up (suc i)) 255 0 ≡ table (λ i. 1) 255 0
 unfolding inverses product productN timesX times01 _⊕_
 products = refl
 
-product-one : (i : ℕ) → Byte (suc i) → suc i · looked-up (suc i) ≡ 1
-product-one i h = same (λ i. suc i · looked-up (suc i)) (λ i. 1) 255 products i (le-of-suc-le-suc h)
+product-one : (i : ℕ) → Byte (suc i) → suc i • looked-up (suc i) ≡ 1
+product-one i h = same (λ i. suc i • looked-up (suc i)) (λ i. 1) 255 products i (le-of-suc-le-suc h)
 
 pub inverse-zero : inverse 0 ≡ 0
 unfolding inverse squares
@@ -114,7 +114,7 @@ unfolding inverses
 inverse-is zero h = inverse-zero
 inverse-is (suc i) h = inverse-of (suc i) (looked-up (suc i)) h (byte _) (product-one i h)
 
-pub inverse-product : (a : ℕ) → 0 < a → Byte a → a · inverse a ≡ 1
+pub inverse-product : (a : ℕ) → 0 < a → Byte a → a • inverse a ≡ 1
 inverse-product zero p h = absurd (not-suc-le-zero p)
 inverse-product (suc i) p h = rw (inverse-is (suc i) h) (product-one i h)
 

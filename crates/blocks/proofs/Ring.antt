@@ -10,9 +10,10 @@ use native.Mathlib.Omega.{arith}
 use lib.Arith.{lt-one}
 use lib.Dec.{lit<}
 use lib.Pow.{pow-pos, pow-lt}
-use Rattle.blocks.specs.Xor.{_⊕_}
-use Rattle.blocks.specs.Field.{times01, timesX, productN, product, _•_, power, Ring}
-use Rattle.blocks.proofs.Xor.{xor-laws, xor-comm, xor-shr, xor-mod, xor-parts, xor-disjoint, xor-below, xor-zero, xor-zero-left, xor-self}
+use Rattle.strings.specs.Xor.{_⊕_}
+use Rattle.blocks.specs.Field.{times01, timesX, productN, product, power, Ring}
+use Rattle.blocks.specs.BlockField.{_·_}
+use Rattle.strings.proofs.Xor.{xor-laws, xor-comm, xor-shr, xor-mod, xor-parts, xor-disjoint, xor-below, xor-zero, xor-zero-left, xor-self}
 
 abbrev pub Additive : (ℕ → ℕ) → Type 0
 Additive f = (a b : ℕ) → f (a ⊕ b) ≡ f a ⊕ f b
@@ -255,7 +256,7 @@ module _ (k p : ℕ) where
     }
 
 -- 01's blocks, and the bytes of AES
-pub ring-of-blocks : Ring 128 1 _•_
+pub ring-of-blocks : Ring 128 1 _·_
 ring-of-blocks = ring 128 0x87 (lit< tt) (lit< tt)
 
 pub ring-of-bytes : Ring 8 1 (product 8 0x1b)

@@ -1,16 +1,19 @@
--- The steps of AES, its ciphers and AES under each key are permutations, given that the box is one.
+-- The steps of AES, its ciphers and AES under each key are permutations, given that the S-box is one.
 -- Assumes nothing.
 use Prim.Native.Nat.{ℕ, zero, suc, _+_, _-_, _*_, _/_, _%_}
 use mathlib.Core.Path.{_≡_, refl, sym, _∙_}
 use mathlib.Core.List.{List}
 use lib.ListN.{getD}
-use Rattle.blocks.specs.Xor.{_⊕_}
-use Rattle.blocks.specs.Permutation.{Permutation, Block, BlockPermutation}
-use Rattle.blocks.specs.Aes.{Byte, State, at, state, box, invBox, subBytes, invSubBytes, shiftRows, invShiftRows, mixed, invMixed, mixColumns, invMixColumns, addRoundKey, rounds, invRounds, cipher, invCipher, byteOf, roundKey, encipher, decipher, Nr, keyExpansion, aes}
-use Rattle.blocks.proofs.Xor.{xor-below, xor-cancel-right}
-use Rattle.blocks.proofs.Bytes.{bytes-below}
-use Rattle.blocks.proofs.Table.{table-below, is-table}
-use Rattle.blocks.proofs.Permutations.{then, backwards, on-blocks}
+use Rattle.strings.specs.Xor.{_⊕_}
+use Rattle.strings.specs.Cipher.{Permutation}
+use Rattle.blocks.specs.Blocks.{IsBlock}
+use Rattle.blocks.specs.BlockCipher.{BlockPermutation}
+use Rattle.blocks.specs.Aes.{Byte, State, at, state, sBox, invSBox, subBytes, invSubBytes, shiftRows, invShiftRows, mixed, invMixed, mixColumns, invMixColumns, addRoundKey, rounds, invRounds, cipher, invCipher, byteOf, roundKey, encipher, decipher, Nr, keyExpansion, aes}
+use Rattle.strings.proofs.Xor.{xor-below, xor-cancel-right}
+use Rattle.strings.proofs.Bytes.{bytes-below}
+use Rattle.strings.proofs.Table.{table-below, is-table}
+use Rattle.strings.proofs.Permutations.{then, backwards}
+use Rattle.blocks.proofs.OnBlocks.{on-blocks}
 use Rattle.blocks.proofs.Columns.{mixed-below, inv-mixed-below, mixed-undone, inv-mixed-undone, mixed-thrice}
 
 -- ---- states by their entries
@@ -91,7 +94,7 @@ pub round-key-is : (w : List ℕ) (i : ℕ) → State (roundKey w i)
 unfolding roundKey byteOf
 round-key-is w i = state-is (λ r c. byteOf (getD w (4 * i + c) 0) r) (λ r c. bytes-below 4 (getD w (4 * i + c) 0) r)
 
-module _ (boxes : Permutation Byte box invBox) where
+module _ (boxes : Permutation Byte sBox invSBox) where
   pub sub-bytes : Permutation State subBytes invSubBytes
   unfolding subBytes invSubBytes
   sub-bytes = step (by-bytes boxes) (by-bytes (backwards boxes))
@@ -108,7 +111,7 @@ module _ (boxes : Permutation Byte box invBox) where
     unfolding cipher invCipher
     cipher-permutation Nr = then (rounds-permutation (Nr - 1)) (add-round-key (key Nr) (keys Nr))
 
-  pub block-permutation : (Nr : ℕ) (w : List ℕ) → Permutation Block (encipher Nr w) (decipher Nr w)
+  pub block-permutation : (Nr : ℕ) (w : List ℕ) → Permutation IsBlock (encipher Nr w) (decipher Nr w)
   unfolding encipher decipher
   block-permutation Nr w = on-blocks (cipher-permutation (roundKey w) (round-key-is w) Nr)
 

@@ -6,9 +6,9 @@ use native.Mathlib.Nat.{two-mul, add-mod, pow-suc, div-div-eq-div-mul}
 use native.Mathlib.Numerals.{add-one, one-add}
 use native.Mathlib.Omega.{arith}
 use lib.Pow.{field, shr-shr, shl-shr}
-use Rattle.blocks.specs.Xor.{_⊕_}
+use Rattle.strings.specs.Xor.{_⊕_}
 use Rattle.blocks.specs.Field.{times01, timesX, productN}
-use Rattle.blocks.proofs.Xor.{xor-comm}
+use Rattle.strings.proofs.Xor.{xor-comm}
 
 -- what is left of b, shifted once more
 pub rest-step : (k b i : ℕ) → 2 * (b * 2 ^ i % 2 ^ k) % 2 ^ k ≡ b * 2 ^ (i + 1) % 2 ^ k

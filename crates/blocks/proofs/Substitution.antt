@@ -1,4 +1,4 @@
--- AES's box and its inverse are permutations of the bytes that undo each other, and the tables of both.
+-- AES's S-box and its inverse are permutations of the bytes that undo each other, and the tables of both.
 -- Assumes nothing.
 use mathlib.Core.Path.{_≡_, refl, sym, ap, ap₂, _∙_}
 use mathlib.Core.List.{List}
@@ -8,12 +8,13 @@ use native.Mathlib.Omega.{arith}
 use lib.Arith.{digits-lt}
 use lib.Pow.{pow-pos}
 use lib.ListN.{getD}
-use Rattle.blocks.specs.Xor.{_⊕_}
-use Rattle.blocks.specs.Permutation.{Permutation}
-use Rattle.blocks.specs.Aes.{Byte, bit, ofBits, affine, invAffine, inverse, box, invBox, Table}
-use Rattle.blocks.proofs.Xor.{xor-laws, xor-assoc, xor-shr, xor-mod, xor-parts, xor-below, xor-disjoint}
+use Rattle.strings.specs.Xor.{_⊕_}
+use Rattle.strings.specs.Cipher.{Permutation}
+use Rattle.blocks.specs.Aes.{Byte, bit, ofBits, affine, invAffine, inverse, sBox, invSBox}
+use Rattle.blocks.specs.Inner.{Table}
+use Rattle.strings.proofs.Xor.{xor-laws, xor-assoc, xor-shr, xor-mod, xor-parts, xor-below, xor-disjoint}
 use Rattle.blocks.proofs.Ring.{basis}
-use Rattle.blocks.proofs.Table.{table, entry, same}
+use Rattle.strings.proofs.Table.{table, entry, same}
 use Rattle.blocks.proofs.Inverse.{looked-up, inverse-is, inverse-below, inverse-inverse}
 
 infixl 65 _⊞_
@@ -76,9 +77,9 @@ affine-below = affine-map .below
 invAffine-below : (b : ℕ) → Byte (invAffine b)
 invAffine-below = invAffine-map .below
 
-pub box-permutation : Permutation Byte box invBox
-unfolding box invBox
-box-permutation = record {
+pub sbox-permutation : Permutation Byte sBox invSBox
+unfolding sBox invSBox
+sbox-permutation = record {
   keeps = λ b h. affine-below (inverse b);
   inverse-keeps = λ b h. inverse-below (invAffine b) (invAffine-below b);
   undone = λ b h. rw (invAffine-affine (inverse b) (inverse-below b h)) (inverse-inverse b h);
@@ -111,14 +112,14 @@ value g {f} e F s i l k =
     (ap₂ _⊕_ (entry (λ d. f (d * 16)) 16 refl (b / 16) (omega arith)) (entry (λ d. f d ⊕ f 0) 16 refl (b % 16) (omega arith))
     ∙ sym (xor-assoc (f (b / 16 * 16)) (f (b % 16)) (f 0)) ∙ sym (F .add (b / 16 * 16) (b % 16)) ∙ ap f parts)
 
-pub box-table : {t : List ℕ} → t ≡ values (λ b. b) affine looked-up → Table box t
-unfolding box
-box-table s = record {
+pub sbox-table : {t : List ℕ} → t ≡ values (λ b. b) affine looked-up → Table sBox t
+unfolding sBox
+sbox-table s = record {
   entry = λ b h. value (λ c. c) looked-up affine-map s b h (rw (inverse-is b h) at (inverse-below b h)) ∙ ap affine (sym (inverse-is b h));
 }
 
-pub inv-box-table : {t : List ℕ} → t ≡ values looked-up invAffine (λ b. b) → Table invBox t
-unfolding invBox
-inv-box-table s = record {
+pub inv-sbox-table : {t : List ℕ} → t ≡ values looked-up invAffine (λ b. b) → Table invSBox t
+unfolding invSBox
+inv-sbox-table s = record {
   entry = λ b h. value looked-up (λ c. c) invAffine-map s b h h ∙ sym (inverse-is (invAffine b) (invAffine-below b));
 }

@@ -10,12 +10,15 @@ use borrow.Author.Tests.{lt-ltb, le-ltb, eq-eqb, ne-eqb}
 use lib.Arith.{digits-div}
 use lib.ListN.{length, getD, drop, length-append, List·getD-append}
 use lib.Seq.{getD-at, getD-drop, drop-drop}
-use Rattle.blocks.specs.Xor.{_⊕_}
-use Rattle.blocks.specs.Bytes.{Bytes, number, bytes, block}
+use Rattle.strings.specs.Xor.{_⊕_}
+use Rattle.strings.specs.Bytes.{Bytes, number, bytes}
+use Rattle.blocks.specs.Blocks.{firstBlock}
 use Rattle.blocks.specs.Field.{power}
-use Rattle.blocks.specs.Aes.{_·_, box, word, byteOf, rotWord, subWord, rcon, Constants, temp, ownWord, keyWord, keyWords}
-use Rattle.blocks.proofs.Bytes.{bytes-below, bytes-number, number-append, padded, padded-add}
-use Rattle.blocks.proofs.Place.{number-fits, high-half}
+use Rattle.blocks.specs.Aes.{_•_, sBox, word, byteOf, rotWord, subWord, rcon, temp, ownWord, keyWord, keyWords}
+use Rattle.blocks.specs.Inner.{Constants}
+use Rattle.strings.proofs.Bytes.{bytes-below, bytes-number, number-append, padded, padded-add}
+use Rattle.strings.proofs.Place.{number-fits}
+use Rattle.blocks.proofs.Blocks.{high-half}
 
 pub byteOf-below : (w i : ℕ) → byteOf w i < 256
 unfolding byteOf
@@ -34,12 +37,12 @@ rot-bytes w =
     bytes-number (byteOf w 1 ∷ byteOf w 2 ∷ byteOf w 3 ∷ byteOf w 0 ∷ [])
     (four (byteOf w 1) (byteOf w 2) (byteOf w 3) (byteOf w 0) (byteOf-below w 1) (byteOf-below w 2) (byteOf-below w 3) (byteOf-below w 0))
 
-pub sub-rot : (w : ℕ) → subWord (rotWord w) ≡ word (box (byteOf w 1)) (box (byteOf w 2)) (box (byteOf w 3)) (box (byteOf w 0))
+pub sub-rot : (w : ℕ) → subWord (rotWord w) ≡ word (sBox (byteOf w 1)) (sBox (byteOf w 2)) (sBox (byteOf w 3)) (sBox (byteOf w 0))
 unfolding subWord byteOf
-sub-rot w = ap (λ (s : List ℕ). word (box (getD s 0 0)) (box (getD s 1 0)) (box (getD s 2 0)) (box (getD s 3 0))) (rot-bytes w)
+sub-rot w = ap (λ (s : List ℕ). word (sBox (getD s 0 0)) (sBox (getD s 1 0)) (sBox (getD s 2 0)) (sBox (getD s 3 0))) (rot-bytes w)
 
 -- The highest word of a block that is read.
-pub read-word : (i : ℕ) (s : List ℕ) → Bytes s → block (drop (4 * i) s) / 2 ^ 64 / 2 ^ 32 ≡ ownWord s i
+pub read-word : (i : ℕ) (s : List ℕ) → Bytes s → firstBlock (drop (4 * i) s) / 2 ^ 64 / 2 ^ 32 ≡ ownWord s i
 unfolding ownWord word padded
 read-word i s h =
     let at = 4 * i in
@@ -50,9 +53,9 @@ read-word i s h =
 -- x, 2 x, 4 x, .. in the field of bytes, n of them: what the round constants are tested to be.
 unfoldable pub doubles : ℕ → ℕ → List ℕ
 doubles zero x = []
-doubles (suc n) x = x ∷ doubles n (0x02 · x)
+doubles (suc n) x = x ∷ doubles n (0x02 • x)
 
-doubled : (n k j : ℕ) → j < n → getD (doubles n (power 1 _·_ 0x02 k)) j 0 ≡ power 1 _·_ 0x02 (k + j)
+doubled : (n k j : ℕ) → j < n → getD (doubles n (power 1 _•_ 0x02 k)) j 0 ≡ power 1 _•_ 0x02 (k + j)
 unfolding doubles power
 doubled zero k j l = absurd (not-suc-le-zero l)
 doubled (suc n) k zero l = rw add-zero

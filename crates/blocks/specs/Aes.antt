@@ -1,17 +1,16 @@
 -- AES of FIPS 197, by its names and in the order of its sections. A state is a list of 16 bytes; a word of the key is a number below 2 ^ 32
 -- and a block one below 2 ^ 128, the first byte highest.
 use Prim.Native.Nat.{ℕ, zero, suc, _+_, _-_, _*_, _/_, _%_, _^_, _<_}
-use mathlib.Core.Path.{_≡_}
 use mathlib.Core.Bool.{Bool, true, false, _&&_}
 use mathlib.Core.List.{List, [], _∷_, _++_}
 use lib.Dec.{ltb, eqb}
 use lib.ListN.{getD}
-use Rattle.blocks.specs.Xor.{_⊕_}
-use Rattle.blocks.specs.Bytes.{OfLength, number, bytes}
+use Rattle.strings.specs.Xor.{_⊕_}
+use Rattle.strings.specs.Bytes.{OfLength, number, bytes}
 use Rattle.blocks.specs.Field.{product, power}
-use Rattle.blocks.specs.Permutation.{BlockCipher}
+use Rattle.blocks.specs.BlockCipher.{BlockCipher}
 
-infixl 70 _·_
+infixl 70 _•_
 -- ---- 3.4: the state
 
 abbrev pub State : List ℕ → Type 0
@@ -35,15 +34,15 @@ abbrev pub Byte : ℕ → Type 0
 Byte b = b < 256
 
 -- 4.2: the product of two bytes, where x ^ 8 = x ^ 4 + x ^ 3 + x + 1.
-abbrev pub _·_ : ℕ → ℕ → ℕ
-_·_ = product 8 0x1b
+abbrev pub _•_ : ℕ → ℕ → ℕ
+_•_ = product 8 0x1b
 
 -- The product of the first n of the squares a ^ 2, a ^ 4, a ^ 8, ..
 unfoldable pub squares : ℕ → ℕ → ℕ
 squares zero a = 1
-squares (suc n) a = a · a · squares n (a · a)
+squares (suc n) a = a • a • squares n (a • a)
 
--- The inverse of a byte is its power 254 = 2 + 4 + 8 + 16 + 32 + 64 + 128, and 0 goes to 0. That a · inverse a is 1 is a theorem.
+-- The inverse of a byte is its power 254 = 2 + 4 + 8 + 16 + 32 + 64 + 128, and 0 goes to 0. That a • inverse a is 1 is a theorem.
 unfoldable pub inverse : ℕ → ℕ
 inverse a = squares 7 a
 
@@ -58,15 +57,15 @@ unfoldable pub ofBits : ℕ → (ℕ → ℕ) → ℕ
 ofBits zero d = 0
 ofBits (suc n) d = d n * 2 ^ n + ofBits n d
 
--- 5.1.1: the affine map, the box, and SubBytes.
+-- 5.1.1: the affine map, the S-box, and SubBytes.
 unfoldable pub affine : ℕ → ℕ
 affine b = ofBits 8 (λ i. bit b i ⊕ bit b (i + 4) ⊕ bit b (i + 5) ⊕ bit b (i + 6) ⊕ bit b (i + 7) ⊕ bit 0x63 i)
 
-unfoldable pub box : ℕ → ℕ
-box b = affine (inverse b)
+unfoldable pub sBox : ℕ → ℕ
+sBox b = affine (inverse b)
 
 unfoldable pub subBytes : List ℕ → List ℕ
-subBytes s = state (λ r c. box (at s r c))
+subBytes s = state (λ r c. sBox (at s r c))
 
 -- 5.1.2
 unfoldable pub shiftRows : List ℕ → List ℕ
@@ -74,7 +73,7 @@ shiftRows s = state (λ r c. at s r ((c + r) % 4))
 
 -- 5.1.3: a byte of a mixed column, from the four bytes of the column from its own row on.
 unfoldable pub mixed : ℕ → ℕ → ℕ → ℕ → ℕ
-mixed a b c d = 0x02 · a ⊕ 0x03 · b ⊕ c ⊕ d
+mixed a b c d = 0x02 • a ⊕ 0x03 • b ⊕ c ⊕ d
 
 unfoldable pub mixColumns : List ℕ → List ℕ
 mixColumns s = state (λ r c. mixed (at s r c) (at s ((r + 1) % 4) c) (at s ((r + 2) % 4) c) (at s ((r + 3) % 4) c))
@@ -113,7 +112,7 @@ unfoldable pub rotWord : ℕ → ℕ
 rotWord w = word (byteOf w 1) (byteOf w 2) (byteOf w 3) (byteOf w 0)
 
 unfoldable pub subWord : ℕ → ℕ
-subWord w = word (box (byteOf w 0)) (box (byteOf w 1)) (box (byteOf w 2)) (box (byteOf w 3))
+subWord w = word (sBox (byteOf w 0)) (sBox (byteOf w 1)) (sBox (byteOf w 2)) (sBox (byteOf w 3))
 
 -- The number of rounds: 10 for the 4 words of a 16-byte key.
 abbrev pub Nr : ℕ → ℕ
@@ -121,7 +120,7 @@ Nr Nk = Nk + 6
 
 -- Rcon[j], where the power j - 1 of x is the first byte.
 unfoldable pub rcon : ℕ → ℕ
-rcon j = word (power 1 _·_ 0x02 (j - 1)) 0 0 0
+rcon j = word (power 1 _•_ 0x02 (j - 1)) 0 0 0
 
 abbrev pub choose : Bool → ℕ → ℕ → ℕ
 choose true a b = a
@@ -159,19 +158,19 @@ roundKey w i = state (λ r c. byteOf (getD w (4 * i + c) 0) r)
 unfoldable pub invShiftRows : List ℕ → List ℕ
 invShiftRows s = state (λ r c. at s r ((c + (4 - r)) % 4))
 
--- 5.3.2: the inverse of the affine map, of the box, and of SubBytes.
+-- 5.3.2: the inverse of the affine map, of the S-box, and of SubBytes.
 unfoldable pub invAffine : ℕ → ℕ
 invAffine b = ofBits 8 (λ i. bit b (i + 2) ⊕ bit b (i + 5) ⊕ bit b (i + 7) ⊕ bit 0x05 i)
 
-unfoldable pub invBox : ℕ → ℕ
-invBox b = inverse (invAffine b)
+unfoldable pub invSBox : ℕ → ℕ
+invSBox b = inverse (invAffine b)
 
 unfoldable pub invSubBytes : List ℕ → List ℕ
-invSubBytes s = state (λ r c. invBox (at s r c))
+invSubBytes s = state (λ r c. invSBox (at s r c))
 
 -- 5.3.3
 unfoldable pub invMixed : ℕ → ℕ → ℕ → ℕ → ℕ
-invMixed a b c d = 0x0e · a ⊕ 0x0b · b ⊕ 0x0d · c ⊕ 0x09 · d
+invMixed a b c d = 0x0e • a ⊕ 0x0b • b ⊕ 0x0d • c ⊕ 0x09 • d
 
 unfoldable pub invMixColumns : List ℕ → List ℕ
 invMixColumns s = state (λ r c. invMixed (at s r c) (at s ((r + 1) % 4) c) (at s ((r + 2) % 4) c) (at s ((r + 3) % 4) c))
@@ -208,21 +207,3 @@ aes key = record {
   E = encipher (Nr 4) (keyExpansion 4 key);
   D = decipher (Nr 4) (keyExpansion 4 key);
 }
-
--- ---- what else the contracts of the code cite
-
--- The list t is the table of f on the bytes.
-pub record Table (f : ℕ → ℕ) (t : List ℕ) : Type 0 where
-  pub entry : (b : ℕ) → b < 256 → getD t b 0 ≡ f b
-
--- What a table makes of a state, entry by entry: x is that of s under every f whose table it is.
-abbrev pub Substituted : List ℕ → List ℕ → List ℕ → Type 0
-Substituted t s x = (f : ℕ → ℕ) → Table f t → x ≡ state (λ r c. f (at s r c))
-
--- The list t has the first bytes of Rcon[1] to Rcon[n].
-pub record Constants (n : ℕ) (t : List ℕ) : Type 0 where
-  pub constant : (j : ℕ) → j < n → getD t j 0 ≡ power 1 _·_ 0x02 j
-
--- The columns, each from its second row on and the first one last.
-unfoldable pub nextRows : List ℕ → List ℕ
-nextRows s = state (λ r c. at s ((r + 1) % 4) c)

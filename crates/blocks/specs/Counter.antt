@@ -2,8 +2,8 @@
 use Prim.Native.Nat.{ℕ, suc}
 use mathlib.Core.List.{List, [], _∷_}
 use lib.ListN.{length, take}
-use Rattle.blocks.specs.Xor.{_⊕_}
-use Rattle.blocks.specs.Bytes.{blocks, string}
+use Rattle.strings.specs.Xor.{_⊕_}
+use Rattle.blocks.specs.Blocks.{blocks, string}
 
 module _ (mask : ℕ → ℕ) where
   -- Blocks, the first of number i.

@@ -6,9 +6,8 @@ use Prim.Native.Nat.{ℕ, zero, suc, _*_, _/_, _%_, _^_, _<_}
 use mathlib.Core.Path.{_≡_}
 use mathlib.Core.List.{List, [], _∷_}
 use lib.ListN.{length}
-use Rattle.blocks.specs.Xor.{_⊕_}
+use Rattle.strings.specs.Xor.{_⊕_}
 
-infixl 70 _•_
 -- The product of a coefficient, 0 or 1, and a.
 unfoldable pub times01 : ℕ → ℕ → ℕ
 times01 zero a = 0
@@ -41,13 +40,6 @@ module _ (one : ℕ) (_·_ : ℕ → ℕ → ℕ) where
   powerSum R [] = 0
   powerSum R (A ∷ As) = A · power R (suc (length As)) ⊕ powerSum R As
 
-module _ (_·_ : ℕ → ℕ → ℕ) where
-  infixl 70 _·_
-  -- The same sum by Horner's rule: each block is added to what there is, and that is multiplied by R.
-  unfoldable pub horner : ℕ → ℕ → List ℕ → ℕ
-  horner R sum [] = sum
-  horner R sum (A ∷ As) = horner R ((sum ⊕ A) · R) As
-
 module _ (k one : ℕ) (_·_ : ℕ → ℕ → ℕ) where
   infixl 70 _·_
   -- The numbers below 2 ^ k are a commutative ring with one under this product. (Exclusive or is a commutative group by itself.)
@@ -62,14 +54,3 @@ module _ (k one : ℕ) (_·_ : ℕ → ℕ → ℕ) where
     pub one-right : (a : ℕ) → a < 2 ^ k → a · one ≡ a
     pub comm : (a b : ℕ) → a < 2 ^ k → b < 2 ^ k → a · b ≡ b · a
     pub assoc : (a b c : ℕ) → a < 2 ^ k → b < 2 ^ k → c < 2 ^ k → a · b · c ≡ a · (b · c)
-
--- ---- 01's blocks: x times one, the product of two, and the keyed sum of H
-
-abbrev pub xTimes : ℕ → ℕ
-xTimes = timesX 128 0x87
-
-abbrev pub _•_ : ℕ → ℕ → ℕ
-_•_ = product 128 0x87
-
-abbrev pub keyedSum : ℕ → List ℕ → ℕ
-keyedSum = powerSum 1 _•_

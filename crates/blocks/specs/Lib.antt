@@ -1,11 +1,8 @@
-pub mod Xor
-pub mod Bytes
+pub mod Blocks
+pub mod BlockCipher
 pub mod Field
-pub mod One
+pub mod BlockField
 pub mod Counter
-pub mod Permutation
 pub mod Aes
-pub mod Block
-pub mod Key
-pub mod Call
+pub mod Inner
 pub mod Theorems

@@ -1,9 +1,9 @@
 // AES-128 of FIPS 197.
 ghost use Prim.Native.Nat.{_+_, _≤_, _<_};
 ghost use mathlib.Core.Path.{_≡_};
-ghost use Rattle.blocks.specs.Xor.{_⊕_};
-ghost use Rattle.blocks.specs.Aes.{Table, box, word, Constants, rotWord, subWord, temp, ownWord, keyWord, Nr, keyExpansion, roundKey, cipher, invCipher, encipher, decipher};
-ghost use Rattle.blocks.specs.Block.{value};
+ghost use Rattle.strings.specs.Xor.{_⊕_};
+ghost use Rattle.blocks.specs.Inner.{Table, Constants, value};
+ghost use Rattle.blocks.specs.Aes.{sBox, word, rotWord, subWord, temp, ownWord, keyWord, Nr, keyExpansion, roundKey, cipher, invCipher, encipher, decipher};
 use crate::block::Block;
 use crate::inv_sbox;
 use crate::sbox;
@@ -26,7 +26,7 @@ fn word(a: u8, b: u8, c: u8, d: u8) -> u32
 
 // SubWord of RotWord, 5.2.
 fn sub_rot_word(table: &state::Table, w: u32) -> u32
-    requires { ⌜ Table box (now table) ⌝ }
+    requires { ⌜ Table sBox (now table) ⌝ }
     ensures { λ r. ⌜ r ≡ subWord (rotWord w) ⌝ }
 {
     word(
@@ -47,7 +47,7 @@ fn own_word(key: &[u8], i: usize) -> u32
 
 // Word i of the expanded key, from the one four back and the one before it.
 fn next_word(table: &state::Table, rcon: &[u8; 10], i: usize, back: u32, before: u32) -> u32
-    requires { ⌜ Table box (now table) × Constants (Nr 4) (now rcon) × (4 ≤ i) × (i < 44) ⌝ }
+    requires { ⌜ Table sBox (now table) × Constants (Nr 4) (now rcon) × (4 ≤ i) × (i < 44) ⌝ }
     ensures { λ r. ⌜ r ≡ back ⊕ temp 4 i before ⌝ }
 {
     if i % 4 > 0 {
@@ -64,7 +64,7 @@ fn key_word(
     words: &state::Words,
     i: usize,
 ) -> u32
-    requires { ⌜ Table box (now table) × Constants (Nr 4) (now rcon) × (i < 44) ⌝ }
+    requires { ⌜ Table sBox (now table) × Constants (Nr 4) (now rcon) × (i < 44) ⌝ }
     ensures { λ r. ⌜ r ≡ keyWord 4 (now (key .entry)) i (now (words .entry)) ⌝ }
 {
     if i < 4 {

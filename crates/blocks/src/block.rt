@@ -2,9 +2,11 @@
 ghost use Prim.Native.Nat.{_+_, _/_, _^_, _<_};
 ghost use mathlib.Core.Path.{_≡_};
 ghost use lib.ListN.{drop};
-ghost use Rattle.blocks.specs.Xor.{_⊕_};
-ghost use Rattle.blocks.specs.Bytes.{number, block, bytes, overwrite};
-ghost use Rattle.blocks.specs.Block.{value};
+ghost use Rattle.strings.specs.Xor.{_⊕_};
+ghost use Rattle.strings.specs.Bytes.{number, bytes};
+ghost use Rattle.strings.specs.Inner.{overwrite};
+ghost use Rattle.blocks.specs.Blocks.{firstBlock};
+ghost use Rattle.blocks.specs.Inner.{value};
 
 pub struct Block {
     pub hi: u64,
@@ -21,7 +23,7 @@ fn wide(b: u8) -> u64
 // The high half of the block at `at`: 8 bytes, the first highest, zero bytes where the string ends.
 fn word(s: &[u8], at: usize) -> u64
     requires { ⌜ at + 8 < 2 ^ 64 ⌝ }
-    ensures { λ r. ⌜ r ≡ block (drop at (now (s .entry))) / 2 ^ 64 ⌝ }
+    ensures { λ r. ⌜ r ≡ firstBlock (drop at (now (s .entry))) / 2 ^ 64 ⌝ }
 {
     let mut w = 0u64;
     for i in 0..8usize {
@@ -55,7 +57,7 @@ impl Block {
 
     // The 16 bytes from place `at` on, zero bytes where the string ends.
     pub fn read(s: &[u8], at: usize) -> Block
-        ensures { λ r. ⌜ value r ≡ block (drop at (now (s .entry))) ⌝ }
+        ensures { λ r. ⌜ value r ≡ firstBlock (drop at (now (s .entry))) ⌝ }
     {
         if at >= s.len() {
             return Block::ZERO;

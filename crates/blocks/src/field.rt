@@ -1,9 +1,10 @@
 // The field of 2^128 elements: blocks with x^128 = x^7 + x^2 + x + 1.
 ghost use mathlib.Core.Path.{_≡_};
 ghost use Prim.Native.Nat.{_*_, _/_, _%_, _^_, _<_};
-ghost use Rattle.blocks.specs.Bytes.{blocks};
-ghost use Rattle.blocks.specs.Field.{times01, xTimes, _•_, keyedSum};
-ghost use Rattle.blocks.specs.Block.{value};
+ghost use Rattle.blocks.specs.Blocks.{blocks};
+ghost use Rattle.blocks.specs.Field.{times01};
+ghost use Rattle.blocks.specs.BlockField.{timesX, _·_, powerSum};
+ghost use Rattle.blocks.specs.Inner.{value};
 use crate::block::Block;
 
 // The word where `bit` is 1 and zero where it is 0: the mask is zero less the bit, which the kit compiles with no branch.
@@ -34,7 +35,7 @@ fn shifted(a: Block) -> Block
 
 // x times a: shifted, and reduced by 87 (hexadecimal) masked by the bit that fell out.
 pub fn times_x(a: Block) -> Block
-    ensures { λ r. ⌜ value r ≡ xTimes (value a) ⌝ }
+    ensures { λ r. ⌜ value r ≡ timesX (value a) ⌝ }
 {
     let s = shifted(a);
     Block {
@@ -56,7 +57,7 @@ fn times_bit(bit: u64, a: Block) -> Block
 
 // The product, by the coefficients of b from the highest down: what there is times x, plus a where the coefficient is 1.
 pub fn product(a: Block, b: Block) -> Block
-    ensures { λ r. ⌜ value r ≡ value a • value b ⌝ }
+    ensures { λ r. ⌜ value r ≡ value a · value b ⌝ }
 {
     let mut sum = Block::ZERO;
     let mut rest = b;
@@ -70,7 +71,7 @@ pub fn product(a: Block, b: Block) -> Block
 // The sum of the blocks of `data`, the last padded, each times its own power of the key: 1 for the last block, one more for each
 // before it. By Horner's rule.
 pub fn power_sum(key: Block, data: &[u8]) -> Block
-    ensures { λ r. ⌜ value r ≡ keyedSum (value key) (blocks (now («data» .entry))) ⌝ }
+    ensures { λ r. ⌜ value r ≡ powerSum (value key) (blocks (now («data» .entry))) ⌝ }
 {
     let mut sum = Block::ZERO;
     let mut at = 0;

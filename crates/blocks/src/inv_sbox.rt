@@ -1,6 +1,7 @@
 // The inverse substitution box of FIPS 197, 5.3.2, handed out whole: the caller keeps it in a local and lends it, since a constant table that
 // is indexed in place is stored anew at each look-up.
-ghost use Rattle.blocks.specs.Aes.{Table, invBox};
+ghost use Rattle.blocks.specs.Inner.{Table};
+ghost use Rattle.blocks.specs.Aes.{invSBox};
 use crate::state;
 
 const INV_SBOX: [u8; 256] = [
@@ -263,7 +264,7 @@ const INV_SBOX: [u8; 256] = [
 ];
 
 pub(crate) fn table() -> state::Table
-    ensures { λ t. ⌜ Table invBox t ⌝ }
+    ensures { λ t. ⌜ Table invSBox t ⌝ }
 {
     INV_SBOX
 }

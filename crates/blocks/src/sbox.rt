@@ -1,6 +1,7 @@
 // The substitution box of FIPS 197, 5.1.1, handed out whole: the caller keeps it in a local and lends it, since a constant table that
 // is indexed in place is stored anew at each look-up.
-ghost use Rattle.blocks.specs.Aes.{Table, box};
+ghost use Rattle.blocks.specs.Inner.{Table};
+ghost use Rattle.blocks.specs.Aes.{sBox};
 use crate::state;
 
 const SBOX: [u8; 256] = [
@@ -263,7 +264,7 @@ const SBOX: [u8; 256] = [
 ];
 
 pub(crate) fn table() -> state::Table
-    ensures { λ t. ⌜ Table box t ⌝ }
+    ensures { λ t. ⌜ Table sBox t ⌝ }
 {
     SBOX
 }

@@ -2,7 +2,8 @@
 ghost use Prim.Native.Nat.{_+_, _*_, _/_, _%_, _≤_, _<_};
 ghost use mathlib.Core.Path.{_≡_};
 ghost use lib.ListN.{getD};
-ghost use Rattle.blocks.specs.Aes.{box, invBox, Table, Substituted, shiftRows, mixed, nextRows, mixColumns, addRoundKey, invShiftRows, invMixColumns, round, lastRound, invRound, invLastRound, byteOf, Nr, roundKey};
+ghost use Rattle.blocks.specs.Aes.{sBox, invSBox, shiftRows, mixed, mixColumns, addRoundKey, invShiftRows, invMixColumns, round, lastRound, invRound, invLastRound, byteOf, Nr, roundKey};
+ghost use Rattle.blocks.specs.Inner.{Table, Substituted, nextRows};
 
 // A state, the words of an expanded key, and a table of the bytes.
 pub(crate) type State = [u8; 16];
@@ -21,7 +22,7 @@ pub(crate) fn look(table: &Table, b: u8) -> u8
     table[b as usize]
 }
 
-// SubBytes, or its inverse, by the box that is lent.
+// SubBytes, or its inverse, by the S-box that is lent.
 pub(crate) fn sub_bytes(table: &Table, s: State) -> State
     ensures { λ x. ⌜ Substituted (now (table .entry)) s x ⌝ }
 {
@@ -117,7 +118,7 @@ pub(crate) fn add_round_key(words: &Words, n: usize, s: State) -> State
 
 // Round n; the last one has no mixing.
 pub(crate) fn round(table: &Table, words: &Words, n: usize, s: State) -> State
-    requires { ⌜ Table box (now table) × (n ≤ Nr 4) ⌝ }
+    requires { ⌜ Table sBox (now table) × (n ≤ Nr 4) ⌝ }
     ensures { λ x. ⌜ (n < Nr 4 → x ≡ round (roundKey (now (words .entry))) n s) × (n ≡ Nr 4 → x ≡ lastRound (roundKey (now (words .entry))) n s) ⌝ }
 {
     let t = shift_rows(sub_bytes(table, s));
@@ -129,7 +130,7 @@ pub(crate) fn round(table: &Table, words: &Words, n: usize, s: State) -> State
 
 // Round n of the inverse cipher; the last one, 0, has no mixing.
 pub(crate) fn inv_round(table: &Table, words: &Words, n: usize, s: State) -> State
-    requires { ⌜ Table invBox (now table) × (n ≤ Nr 4) ⌝ }
+    requires { ⌜ Table invSBox (now table) × (n ≤ Nr 4) ⌝ }
     ensures { λ x. ⌜ (0 < n → x ≡ invRound (roundKey (now (words .entry))) n s) × (n ≡ 0 → x ≡ invLastRound (roundKey (now (words .entry))) n s) ⌝ }
 {
     let t = add_round_key(words, n, sub_bytes(table, inv_shift_rows(s)));

@@ -1,7 +1,7 @@
 // 01's four functions for the app in C. include/boards.h declares and explains them; a slice is there a pointer and a length. Each answers the number of
 // the call that it makes, 0 where the work was done, and carries that call's promises.
 ghost use mathlib.Core.Path.{_≡_};
-ghost use Rattle.blocks.specs.Call.{leftBy};
+ghost use Rattle.strings.specs.Call.{leftBy};
 ghost use Rattle.hch.specs.Hch.{enciphered, deciphered};
 ghost use Rattle.hch.specs.Call.{numberOf, answerOf, OnePlaintext};
 ghost use Rattle.pack.specs.Sealing.{seal, numberOf as numberOfSealing, answerOf as answerOfSealing};

@@ -3,37 +3,37 @@ use Prim.Native.Nat.{ℕ, _*_, _^_}
 use mathlib.Core.Path.{_≡_}
 use mathlib.Core.List.{List, [], _∷_, _++_}
 use lib.ListN.{length, drop, replicate}
-use Rattle.blocks.specs.Xor.{_⊕_}
-use Rattle.blocks.specs.Bytes.{number, block, blocks}
-use Rattle.blocks.specs.Field.{xTimes, _•_, keyedSum}
-use Rattle.blocks.specs.Permutation.{Block}
-use Rattle.blocks.specs.Aes.{_·_, box}
+use Rattle.strings.specs.Xor.{_⊕_}
+use Rattle.strings.specs.Bytes.{number}
+use Rattle.blocks.specs.Blocks.{firstBlock, blocks, IsBlock}
+use Rattle.blocks.specs.BlockField.{timesX, _·_, powerSum}
+use Rattle.blocks.specs.Aes.{_•_, sBox}
 use Rattle.hch.specs.Hch.{bin, H}
 use Rattle.layout.specs.Layout.{plainBlock, tweak}
 
 pub record Examples : Type 0 where
   -- x times 1 is 2.
-  pub p1 : xTimes 1 ≡ 2
+  pub p1 : timesX 1 ≡ 2
   -- x times the block 80 then fifteen 00 is 87.
-  pub p2 : xTimes (0x80 * 256 ^ 15) ≡ 0x87
+  pub p2 : timesX (0x80 * 256 ^ 15) ≡ 0x87
   -- That block times 2 is 87.
-  pub p3 : (0x80 * 256 ^ 15) • 2 ≡ 0x87
+  pub p3 : (0x80 * 256 ^ 15) · 2 ≡ 0x87
   -- Any block times 0 is 0.
-  pub p4 : (a : ℕ) → Block a → a • 0 ≡ 0
+  pub p4 : (a : ℕ) → IsBlock a → a · 0 ≡ 0
   -- Any block times 1 is itself.
-  pub p5 : (a : ℕ) → Block a → a • 1 ≡ a
+  pub p5 : (a : ℕ) → IsBlock a → a · 1 ≡ a
   -- In AES's field of bytes 57 times 83 is c1.
-  pub p6 : 0x57 · 0x83 ≡ 0xc1
+  pub p6 : 0x57 • 0x83 ≡ 0xc1
   -- 57 times 2 is ae.
-  pub p7 : 0x57 · 2 ≡ 0xae
-  -- The box sends 00 to 63 and 53 to ed.
-  pub p8 : (box 0x00 ≡ 0x63) × (box 0x53 ≡ 0xed)
+  pub p7 : 0x57 • 2 ≡ 0xae
+  -- The S-box sends 00 to 63 and 53 to ed.
+  pub p8 : (sBox 0x00 ≡ 0x63) × (sBox 0x53 ≡ 0xed)
   -- bin for 20 bytes is a0; for 512 bytes 1000; for 4,096 bytes 8000. A byte is 8 bits.
   pub p9 : (bin (8 * 20) ≡ 0xa0) × (bin (8 * 512) ≡ 0x1000) × (bin (8 * 4096) ≡ 0x8000)
   -- 20 bytes make m = 2, the last block being 4 bytes and 12 zeros.
-  pub p10 : (P : List ℕ) → length P ≡ 20 → blocks P ≡ block P ∷ number (drop 16 P ++ replicate 12 0) ∷ []
+  pub p10 : (P : List ℕ) → length P ≡ 20 → blocks P ≡ firstBlock P ∷ number (drop 16 P ++ replicate 12 0) ∷ []
   -- H with R = 0 is Q xor A_1.
-  pub p11 : (Q A₁ : ℕ) (A₂…Aₘ : List ℕ) → H keyedSum 0 Q A₁ A₂…Aₘ ≡ Q ⊕ A₁
+  pub p11 : (Q A₁ : ℕ) (A₂…Aₘ : List ℕ) → H powerSum 0 Q A₁ A₂…Aₘ ≡ Q ⊕ A₁
   -- Pack 1, place 258 has the tweak 00 00 00 00 00 00 00 01 00 00 00 00 00 00 01 02.
   pub p12 : tweak 1 258 ≡ 0 ∷ 0 ∷ 0 ∷ 0 ∷ 0 ∷ 0 ∷ 0 ∷ 1 ∷ 0 ∷ 0 ∷ 0 ∷ 0 ∷ 0 ∷ 0 ∷ 1 ∷ 2 ∷ []
   -- The plain block for an empty payload, pack 0, place 0 is 512 zeros.

@@ -11,7 +11,7 @@ use lib.ListN.{length}
 use borrow.Author.Tests.{ltb-false, eqb-true, le-ltb, eq-eqb}
 use denote.Enum.Declared.{tagOf}
 use types.Run.{OneOf}
-use Rattle.blocks.specs.Call.{leftBy}
+use Rattle.strings.specs.Call.{leftBy}
 use Rattle.hch.specs.Call.{numberOf, answerOf}
 use Rattle.hch.specs.declared.Answer.{Answer}
 use Rattle.hch.specs.declared.Answer.the-variants.{Done, KeyLength, TweakLength, TooShort, TooLong}

@@ -6,11 +6,13 @@ use mathlib.Core.List.{List, [], _∷_, _++_}
 use native.Mathlib.Omega.{arith}
 use lib.ListN.{length, drop, replicate, length-drop}
 use lib.Seq.{take-all}
-use Rattle.blocks.specs.Xor.{_⊕_}
-use Rattle.blocks.specs.Bytes.{number, pad, block, cut, blocks}
-use Rattle.blocks.specs.Field.{_•_, power, powerSum, keyedSum}
+use Rattle.strings.specs.Xor.{_⊕_}
+use Rattle.strings.specs.Bytes.{number}
+use Rattle.blocks.specs.Blocks.{pad, firstBlock, cut, blocks}
+use Rattle.blocks.specs.BlockField.{_·_, powerSum}
+use Rattle.blocks.specs.Field.{power, powerSum as powerSumOver}
 use Rattle.blocks.proofs.Ring.{ring-of-blocks}
-use Rattle.blocks.proofs.Xor.{xor-zero}
+use Rattle.strings.proofs.Xor.{xor-zero}
 use Rattle.hch.specs.Hch.{bin, H}
 
 -- bin for 20 bytes is a0; for 512 bytes 1000; for 4,096 bytes 8000
@@ -19,19 +21,19 @@ unfolding bin
 p9 = (refl, refl, refl)
 
 -- 20 bytes make m = 2, the last block being 4 bytes and 12 zeros
-pub p10 : (s : List ℕ) → length s ≡ 20 → blocks s ≡ block s ∷ number (drop 16 s ++ replicate 12 0) ∷ []
-unfolding blocks cut block pad
+pub p10 : (s : List ℕ) → length s ≡ 20 → blocks s ≡ firstBlock s ∷ number (drop 16 s ++ replicate 12 0) ∷ []
+unfolding blocks cut firstBlock pad
 p10 s h =
     let l : length (drop 16 s) ≡ 4 = rw (length-drop, h) in
     rw (h, take-all 16 (drop 16 s) (omega (arith, l)), l)
 
 -- H with R = 0 is Q xor A_1
-sum-of-zero : (As : List ℕ) → keyedSum 0 As ≡ 0
-unfolding powerSum power
+sum-of-zero : (As : List ℕ) → powerSum 0 As ≡ 0
+unfolding powerSumOver power
 sum-of-zero [] = refl
 sum-of-zero (A ∷ As) =
-    rw (ring-of-blocks .zero-left (power 1 _•_ 0 (length As)), ring-of-blocks .zero-right A, sum-of-zero As, xor-zero)
+    rw (ring-of-blocks .zero-left (power 1 _·_ 0 (length As)), ring-of-blocks .zero-right A, sum-of-zero As, xor-zero)
 
-pub p11 : (Q A₁ : ℕ) (As : List ℕ) → H keyedSum 0 Q A₁ As ≡ Q ⊕ A₁
+pub p11 : (Q A₁ : ℕ) (As : List ℕ) → H powerSum 0 Q A₁ As ≡ Q ⊕ A₁
 unfolding H
 p11 Q A₁ As = rw (sum-of-zero As, xor-zero)

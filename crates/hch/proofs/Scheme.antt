@@ -6,18 +6,19 @@ use mathlib.Core.List.{List}
 use native.Mathlib.Nat.{mod-lt}
 use lib.ListN.{length, take, drop}
 use lib.Pow.{pow-pos}
-use Rattle.blocks.specs.Xor.{_⊕_}
-use Rattle.blocks.specs.Bytes.{OfLength, number, blocks}
-use Rattle.blocks.specs.Permutation.{Block, Cipher}
+use Rattle.strings.specs.Xor.{_⊕_}
+use Rattle.strings.specs.Bytes.{OfLength, number}
+use Rattle.blocks.specs.Blocks.{blocks, IsBlock}
+use Rattle.strings.specs.Cipher.{Cipher}
 use Rattle.blocks.specs.Counter.{maskedBytes}
-use Rattle.blocks.proofs.Xor.{xor-assoc, xor-comm, xor-below}
-use Rattle.blocks.proofs.Bytes.{blocks-below}
+use Rattle.strings.proofs.Xor.{xor-assoc, xor-comm, xor-below}
+use Rattle.blocks.proofs.Blocks.{blocks-below}
 use Rattle.blocks.proofs.Counter.{counter-cipher}
-use Rattle.blocks.proofs.Pass.{pass, pass-cipher}
-use Rattle.blocks.proofs.Permutations.{agreeing}
+use Rattle.strings.proofs.Pass.{pass, pass-cipher}
+use Rattle.strings.proofs.Permutations.{agreeing}
 use Rattle.hch.specs.Hch.{bin, H, Ctr, encipher, decipher, ctrBytes, fromI, Parts}
 
-bin-below : (l : ℕ) → Block (bin l)
+bin-below : (l : ℕ) → IsBlock (bin l)
 unfolding bin
 bin-below l = mod-lt l (pow-pos 128)
 
@@ -43,40 +44,40 @@ one-pass E F sum R Q Q′ s =
     let a : ℕ = number (take 16 s) ⊕ others sum R Q (drop 16 s) in
     rw (first-first sum R Q (number (take 16 s)) (drop 16 s), first-first sum R Q′ (F a) (ctrBytes E (E (a ⊕ F a)) (drop 16 s)))
 
-encipher-pass : (E xTimes : ℕ → ℕ) (sum : ℕ → List ℕ → ℕ) (T : ℕ) (s : List ℕ)
+encipher-pass : (E timesX : ℕ → ℕ) (sum : ℕ → List ℕ → ℕ) (T : ℕ) (s : List ℕ)
     → let Q = E (E T ⊕ bin (8 * length s)) in
-    encipher E xTimes sum T s ≡ pass 16 E (others sum (E T) Q) (others sum (E T) (xTimes Q)) (λ I. ctrBytes E (E I)) s
+    encipher E timesX sum T s ≡ pass 16 E (others sum (E T) Q) (others sum (E T) (timesX Q)) (λ I. ctrBytes E (E I)) s
 unfolding encipher fromI ctrBytes maskedBytes Ctr
-encipher-pass E xTimes sum T s =
+encipher-pass E timesX sum T s =
     let Q = E (E T ⊕ bin (8 * length s)) in
-    one-pass E E sum (E T) Q (xTimes Q) s
+    one-pass E E sum (E T) Q (timesX Q) s
 
-decipher-pass : (E D xTimes : ℕ → ℕ) (sum : ℕ → List ℕ → ℕ) (T : ℕ) (s : List ℕ)
+decipher-pass : (E D timesX : ℕ → ℕ) (sum : ℕ → List ℕ → ℕ) (T : ℕ) (s : List ℕ)
     → let Q = E (E T ⊕ bin (8 * length s)) in
-    decipher E D xTimes sum T s ≡ pass 16 D (others sum (E T) (xTimes Q)) (others sum (E T) Q) (λ I. ctrBytes E (E I)) s
+    decipher E D timesX sum T s ≡ pass 16 D (others sum (E T) (timesX Q)) (others sum (E T) Q) (λ I. ctrBytes E (E I)) s
 unfolding decipher fromI ctrBytes maskedBytes Ctr
-decipher-pass E D xTimes sum T s =
+decipher-pass E D timesX sum T s =
     let Q = E (E T ⊕ bin (8 * length s)) in
-    let U₁ : ℕ = H sum (E T) (xTimes Q) (number (take 16 s)) (blocks (drop 16 s)) in
-    rw (xor-comm (D U₁) U₁) (one-pass E D sum (E T) (xTimes Q) Q s)
+    let U₁ : ℕ = H sum (E T) (timesX Q) (number (take 16 s)) (blocks (drop 16 s)) in
+    rw (xor-comm (D U₁) U₁) (one-pass E D sum (E T) (timesX Q) Q s)
 
 -- The passes undo each other.
-module _ {E D xTimes : ℕ → ℕ} {sum : ℕ → List ℕ → ℕ} (parts : Parts E D xTimes sum) (T n : ℕ) (hT : Block T) where
-  keeps : (a : ℕ) → Block a → Block (E a)
+module _ {E D timesX : ℕ → ℕ} {sum : ℕ → List ℕ → ℕ} (parts : Parts E D timesX sum) (T n : ℕ) (hT : IsBlock T) where
+  keeps : (a : ℕ) → IsBlock a → IsBlock (E a)
   keeps = parts .permutation .keeps
 
-  others-below : (q : ℕ) → Block q → (s : List ℕ) → OfLength (n - 16) s → Block (others sum (E T) q s)
+  others-below : (q : ℕ) → IsBlock q → (s : List ℕ) → OfLength (n - 16) s → IsBlock (others sum (E T) q s)
   unfolding others
   others-below q hq s h = xor-below 128 hq (parts .sum-keeps (E T) (blocks s) (keeps T hT) (blocks-below s (h .1)))
 
-  key-below : Block (E (E T ⊕ bin (8 * n)))
+  key-below : IsBlock (E (E T ⊕ bin (8 * n)))
   key-below = keeps (E T ⊕ bin (8 * n)) (xor-below 128 (keeps T hT) (bin-below (8 * n)))
 
-  pub scheme-cipher : 16 ≤ n → Cipher n (encipher E xTimes sum T) (decipher E D xTimes sum T)
+  pub scheme-cipher : 16 ≤ n → Cipher n (encipher E timesX sum T) (decipher E D timesX sum T)
   scheme-cipher l =
       let Q = E (E T ⊕ bin (8 * n)) in
       agreeing
-      (λ s h. rw (h .0) at (encipher-pass E xTimes sum T s))
-      (λ s h. rw (h .0) at (decipher-pass E D xTimes sum T s))
-      (pass-cipher l (others-below Q key-below) (others-below (xTimes Q) (parts .step-keeps Q key-below))
+      (λ s h. rw (h .0) at (encipher-pass E timesX sum T s))
+      (λ s h. rw (h .0) at (decipher-pass E D timesX sum T s))
+      (pass-cipher l (others-below Q key-below) (others-below (timesX Q) (parts .step-keeps Q key-below))
       (λ I. ctr-cipher E (E I) (n - 16)) (parts .permutation))

@@ -5,11 +5,14 @@ use mathlib.Core.Path.{_≡_}
 use mathlib.Core.List.{List, _++_}
 use lib.ListN.{length, take, drop}
 use lib.Seq.{drop-at, length-take-le}
-use Rattle.blocks.specs.Xor.{_⊕_}
-use Rattle.blocks.specs.Bytes.{bytes, block, blocks, overwrite}
+use Rattle.strings.specs.Xor.{_⊕_}
+use Rattle.strings.specs.Bytes.{bytes}
+use Rattle.strings.specs.Inner.{overwrite}
+use Rattle.blocks.specs.Blocks.{firstBlock, blocks}
 use Rattle.blocks.specs.Counter.{maskedBytes}
-use Rattle.blocks.proofs.Bytes.{length-bytes, block-first}
-use Rattle.blocks.proofs.Place.{part-behind, put-back, overwrite-front-part}
+use Rattle.strings.proofs.Bytes.{length-bytes}
+use Rattle.blocks.proofs.Blocks.{block-first}
+use Rattle.strings.proofs.Place.{part-behind, put-back, overwrite-front-part}
 use Rattle.hch.specs.Hch.{bin, H, Ctr, encipher, decipher, ctrBytes, fromI}
 
 -- The counter step on the part behind the first block, the part put back, the hash of it written in front.
@@ -25,18 +28,18 @@ finished E sum R Q I A₁ s h =
     (overwrite-front-part 16 (take 16 s) t (bytes 16 (H sum R Q A₁ (blocks t))) front (length-bytes 16 (H sum R Q A₁ (blocks t))))
 
 -- The first block read where it stands: Table II, either side.
-pub enciphering : (E xTimes : ℕ → ℕ) (sum : ℕ → List ℕ → ℕ) (T : ℕ) (s : List ℕ) → 16 ≤ length s
+pub enciphering : (E timesX : ℕ → ℕ) (sum : ℕ → List ℕ → ℕ) (T : ℕ) (s : List ℕ) → 16 ≤ length s
     → let R = E T in
     let Q = E (R ⊕ bin (8 * length s)) in
-    let M₁ = H sum R Q (block s) (blocks (drop 16 s)) in
-    fromI E sum R (xTimes Q) (M₁ ⊕ E M₁) (E M₁) (drop 16 s) ≡ encipher E xTimes sum T s
+    let M₁ = H sum R Q (firstBlock s) (blocks (drop 16 s)) in
+    fromI E sum R (timesX Q) (M₁ ⊕ E M₁) (E M₁) (drop 16 s) ≡ encipher E timesX sum T s
 unfolding encipher fromI ctrBytes maskedBytes Ctr
-enciphering E xTimes sum T s h = rw (block-first s h)
+enciphering E timesX sum T s h = rw (block-first s h)
 
-pub deciphering : (E D xTimes : ℕ → ℕ) (sum : ℕ → List ℕ → ℕ) (T : ℕ) (s : List ℕ) → 16 ≤ length s
+pub deciphering : (E D timesX : ℕ → ℕ) (sum : ℕ → List ℕ → ℕ) (T : ℕ) (s : List ℕ) → 16 ≤ length s
     → let R = E T in
     let Q = E (R ⊕ bin (8 * length s)) in
-    let U₁ = H sum R (xTimes Q) (block s) (blocks (drop 16 s)) in
-    fromI E sum R Q (D U₁ ⊕ U₁) (D U₁) (drop 16 s) ≡ decipher E D xTimes sum T s
+    let U₁ = H sum R (timesX Q) (firstBlock s) (blocks (drop 16 s)) in
+    fromI E sum R Q (D U₁ ⊕ U₁) (D U₁) (drop 16 s) ≡ decipher E D timesX sum T s
 unfolding decipher fromI ctrBytes maskedBytes Ctr
-deciphering E D xTimes sum T s h = rw (block-first s h)
+deciphering E D timesX sum T s h = rw (block-first s h)

@@ -7,16 +7,20 @@ use native.Mathlib.Omega.{arith}
 use lib.Dec.{lit<}
 use lib.ListN.{length, drop-of-length-le}
 use lib.Seq.{take-all}
-use Rattle.blocks.specs.Xor.{_⊕_}
-use Rattle.blocks.specs.Bytes.{OfLength, number, bytes, string}
-use Rattle.blocks.specs.Field.{powerSum, xTimes, keyedSum}
+use Rattle.strings.specs.Xor.{_⊕_}
+use Rattle.strings.specs.Bytes.{OfLength, number, bytes}
+use Rattle.blocks.specs.Blocks.{string, IsBlock}
+use Rattle.blocks.specs.Field.{powerSum as powerSumOver}
+use Rattle.blocks.specs.BlockField.{timesX, powerSum}
 use Rattle.blocks.specs.Counter.{masked}
-use Rattle.blocks.specs.One.{OnePreimage}
-use Rattle.blocks.specs.Permutation.{Block, BlockCipher, BlockPermutation, Cipher}
+use Rattle.strings.specs.One.{OnePreimage}
+use Rattle.strings.specs.Cipher.{Cipher}
+use Rattle.blocks.specs.BlockCipher.{BlockCipher, BlockPermutation}
 use Rattle.blocks.specs.Aes.{aes}
-use Rattle.blocks.proofs.Xor.{xor-zero, xor-comm}
-use Rattle.blocks.proofs.Bytes.{number-below, blocks-nil}
-use Rattle.blocks.proofs.One.{one-preimage}
+use Rattle.strings.proofs.Xor.{xor-zero, xor-comm}
+use Rattle.strings.proofs.Bytes.{number-below}
+use Rattle.blocks.proofs.Blocks.{blocks-nil}
+use Rattle.strings.proofs.One.{one-preimage}
 use Rattle.blocks.proofs.Ring.{x-below, ring-of-blocks}
 use Rattle.blocks.proofs.Horner.{power-sum-below}
 use Rattle.blocks.proofs.Theorems as Blocks
@@ -24,14 +28,14 @@ use Rattle.hch.specs.Hch.{bin, H, Ctr, encipher, Parts, enciphered, deci
 use Rattle.hch.specs.Theorems.{Theorems}
 use Rattle.hch.proofs.Scheme.{scheme-cipher}
 
-own-parts : (c : BlockCipher) → BlockPermutation c → Parts (c .E) (c .D) xTimes keyedSum
+own-parts : (c : BlockCipher) → BlockPermutation c → Parts (c .E) (c .D) timesX powerSum
 own-parts c p = record {
   permutation = p;
   step-keeps = λ a h. x-below 128 0x87 (lit< tt) a;
   sum-keeps = λ R As hR h. power-sum-below ring-of-blocks R hR As h;
 }
 
-tweak-block : (tweak : List ℕ) → OfLength 16 tweak → Block (number tweak)
+tweak-block : (tweak : List ℕ) → OfLength 16 tweak → IsBlock (number tweak)
 tweak-block tweak h = rw (h .0) at (number-below tweak (h .1))
 
 hch-cipher : (key tweak : List ℕ) (n : ℕ) → OfLength 16 tweak → 16 ≤ n → Cipher n (enciphered key tweak) (deciphered key tweak)
@@ -42,9 +46,9 @@ pub one-plaintext : (key tweak : List ℕ) (n : ℕ) → OfLength 16 tweak → 1
     → (C : List ℕ) → OfLength n C → OnePreimage n (enciphered key tweak) C (deciphered key tweak C)
 one-plaintext key tweak n h l C k = one-preimage (hch-cipher key tweak n h l) C k
 
-one-block : (E xTimes : ℕ → ℕ) (T : ℕ) (P : List ℕ) → length P ≡ 16
-    → let Q = E (E T ⊕ bin 128) in encipher E xTimes keyedSum T P ≡ bytes 16 (xTimes Q ⊕ E (number P ⊕ Q))
-unfolding encipher H Ctr masked string powerSum
+one-block : (E timesX : ℕ → ℕ) (T : ℕ) (P : List ℕ) → length P ≡ 16
+    → let Q = E (E T ⊕ bin 128) in encipher E timesX powerSum T P ≡ bytes 16 (timesX Q ⊕ E (number P ⊕ Q))
+unfolding encipher H Ctr masked string powerSumOver
 one-block E step T P h =
     let Q : ℕ = E (E T ⊕ bin 128) in
     let short : length P ≤ 16 = omega (arith, h) in
@@ -52,8 +56,8 @@ one-block E step T P h =
 
 pub theorems : Theorems
 theorems = record {
-  scheme-cipher = λ E D xTimes sum. scheme-cipher;
-  scheme-one-plaintext = λ E D xTimes sum parts T n h l. one-preimage (scheme-cipher parts T n h l);
+  scheme-cipher = λ E D timesX sum. scheme-cipher;
+  scheme-one-plaintext = λ E D timesX sum parts T n h l. one-preimage (scheme-cipher parts T n h l);
   one-block = one-block;
   own-parts = own-parts;
   permutation-one-plaintext = λ c p T n h l. one-preimage (scheme-cipher (own-parts c p) T n h l);

@@ -5,7 +5,7 @@ use mathlib.Core.Bool.{cond, not}
 use mathlib.Core.List.{List}
 use lib.Dec.{ltb, eqb}
 use lib.ListN.{length}
-use Rattle.blocks.specs.One.{OnePreimage}
+use Rattle.strings.specs.One.{OnePreimage}
 use Rattle.hch.specs.Hch.{enciphered}
 use Rattle.hch.specs.declared.Answer.{Answer}
 use Rattle.hch.specs.declared.Answer.the-variants.{Done, KeyLength, TweakLength, TooShort, TooLong}

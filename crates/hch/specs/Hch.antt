@@ -4,10 +4,11 @@
 use Prim.Native.Nat.{ℕ, _*_, _%_, _^_}
 use mathlib.Core.List.{List, _++_}
 use lib.ListN.{length, take, drop}
-use Rattle.blocks.specs.Xor.{_⊕_}
-use Rattle.blocks.specs.Bytes.{Below, number, bytes, blocks, string}
-use Rattle.blocks.specs.Field.{xTimes, keyedSum}
-use Rattle.blocks.specs.Permutation.{Permutation, Block}
+use Rattle.strings.specs.Xor.{_⊕_}
+use Rattle.strings.specs.Bytes.{Below, number, bytes}
+use Rattle.blocks.specs.Blocks.{blocks, string, IsBlock}
+use Rattle.blocks.specs.BlockField.{timesX, powerSum}
+use Rattle.strings.specs.Cipher.{Permutation}
 use Rattle.blocks.specs.Counter.{masked, maskedBytes}
 use Rattle.blocks.specs.Aes.{aes}
 
@@ -15,7 +16,7 @@ use Rattle.blocks.specs.Aes.{aes}
 unfoldable pub bin : ℕ → ℕ
 bin l = l % 2 ^ 128
 
--- Formula (1): H with R and Q over A₁, A₂, …, Aₘ. For HCH the keyed sum is A₂ R ^ (m - 1) ⊕ … ⊕ Aₘ R, `keyedSum` of the blocks' Field.antt.
+-- Formula (1): H with R and Q over A₁, A₂, …, Aₘ. For HCH the keyed sum is A₂ R ^ (m - 1) ⊕ … ⊕ Aₘ R, `powerSum` of the blocks' Field.antt.
 module _ (sum : ℕ → List ℕ → ℕ) where
   unfoldable pub H : ℕ → ℕ → ℕ → List ℕ → ℕ
   H R Q A₁ A₂…Aₘ = Q ⊕ A₁ ⊕ sum R A₂…Aₘ
@@ -26,7 +27,7 @@ module _ (E : ℕ → ℕ) where
   Ctr S As = masked (λ i. E (S ⊕ bin i)) 1 As
 
 -- Table II, left, line by line. P₂…Mₘ and the like are lists of blocks, P₂…Pₘ and C₂…Cₘ the bytes behind the first block.
-module _ (E xTimes : ℕ → ℕ) (sum : ℕ → List ℕ → ℕ) where
+module _ (E timesX : ℕ → ℕ) (sum : ℕ → List ℕ → ℕ) where
   unfoldable pub encipher : ℕ → List ℕ → List ℕ
   encipher T P =
       let P₁ = number (take 16 P) in
@@ -48,12 +49,12 @@ module _ (E xTimes : ℕ → ℕ) (sum : ℕ → List ℕ → ℕ) where
       let C₂…Cₘ = take (length P₂…Pₘ) (string C₂…Dₘ) in
       let C₂…Uₘ = blocks C₂…Cₘ in
       -- 7. C₁ = H with R and xQ over U₁, C₂, …, Cₘ₋₁, Uₘ
-      let C₁ = H sum R (xTimes Q) U₁ C₂…Uₘ in
+      let C₁ = H sum R (timesX Q) U₁ C₂…Uₘ in
       -- 8. C₁, …, Cₘ
       bytes 16 C₁ ++ C₂…Cₘ
 
 -- Table II, right, line by line.
-module _ (E D xTimes : ℕ → ℕ) (sum : ℕ → List ℕ → ℕ) where
+module _ (E D timesX : ℕ → ℕ) (sum : ℕ → List ℕ → ℕ) where
   unfoldable pub decipher : ℕ → List ℕ → List ℕ
   decipher T C =
       let C₁ = number (take 16 C) in
@@ -64,7 +65,7 @@ module _ (E D xTimes : ℕ → ℕ) (sum : ℕ → List ℕ → ℕ) where
       -- 2. Uₘ = pad(Cₘ)
       let C₂…Uₘ = blocks C₂…Cₘ in
       -- 3. U₁ = H with R and xQ over C₁, …, Cₘ₋₁, Uₘ
-      let U₁ = H sum R (xTimes Q) C₁ C₂…Uₘ in
+      let U₁ = H sum R (timesX Q) C₁ C₂…Uₘ in
       -- 4. M₁ = D(U₁); I = M₁ ⊕ U₁; S = E(I)
       let M₁ = D U₁ in
       let I = M₁ ⊕ U₁ in
@@ -80,18 +81,18 @@ module _ (E D xTimes : ℕ → ℕ) (sum : ℕ → List ℕ → ℕ) where
       bytes 16 P₁ ++ P₂…Pₘ
 
 -- What the theorems ask of the parts: a block permutation, a step and a sum that keep blocks.
-pub record Parts (E D xTimes : ℕ → ℕ) (sum : ℕ → List ℕ → ℕ) : Type 0 where
-  pub permutation : Permutation Block E D
-  pub step-keeps : (a : ℕ) → Block a → Block (xTimes a)
-  pub sum-keeps : (R : ℕ) (As : List ℕ) → Block R → Below (2 ^ 128) As → Block (sum R As)
+pub record Parts (E D timesX : ℕ → ℕ) (sum : ℕ → List ℕ → ℕ) : Type 0 where
+  pub permutation : Permutation IsBlock E D
+  pub step-keeps : (a : ℕ) → IsBlock a → IsBlock (timesX a)
+  pub sum-keeps : (R : ℕ) (As : List ℕ) → IsBlock R → Below (2 ^ 128) As → IsBlock (sum R As)
 
 -- ---- HCH with AES: 01's field, the sum of blocks times powers, AES under the key
 
 unfoldable pub enciphered : List ℕ → List ℕ → List ℕ → List ℕ
-enciphered key tweak P = encipher (aes key .E) xTimes keyedSum (number tweak) P
+enciphered key tweak P = encipher (aes key .E) timesX powerSum (number tweak) P
 
 unfoldable pub deciphered : List ℕ → List ℕ → List ℕ → List ℕ
-deciphered key tweak C = decipher (aes key .E) (aes key .D) xTimes keyedSum (number tweak) C
+deciphered key tweak C = decipher (aes key .E) (aes key .D) timesX powerSum (number tweak) C
 
 -- ---- what else the contracts of the code cite
 

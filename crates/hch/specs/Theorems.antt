@@ -3,28 +3,30 @@ use Prim.Native.Nat.{ℕ, _≤_}
 use mathlib.Core.Path.{_≡_}
 use mathlib.Core.List.{List}
 use lib.ListN.{length}
-use Rattle.blocks.specs.Xor.{_⊕_}
-use Rattle.blocks.specs.Bytes.{OfLength, number, bytes}
-use Rattle.blocks.specs.Field.{xTimes, keyedSum}
-use Rattle.blocks.specs.One.{OnePreimage}
-use Rattle.blocks.specs.Permutation.{Block, BlockCipher, BlockPermutation, Cipher}
+use Rattle.strings.specs.Xor.{_⊕_}
+use Rattle.strings.specs.Bytes.{OfLength, number, bytes}
+use Rattle.blocks.specs.BlockField.{timesX, powerSum}
+use Rattle.strings.specs.One.{OnePreimage}
+use Rattle.strings.specs.Cipher.{Cipher}
+use Rattle.blocks.specs.Blocks.{IsBlock}
+use Rattle.blocks.specs.BlockCipher.{BlockCipher, BlockPermutation}
 use Rattle.hch.specs.Hch.{bin, Parts, encipher, decipher, enciphered, deciphered}
 
 pub record Theorems : Type 0 where
   -- For every block permutation, step by x and keyed sum that keep blocks, every tweak and every n from 16 on: HCH keeps the messages of n bytes,
   -- deciphering undoes enciphering and enciphering undoes deciphering.
-  pub scheme-cipher : (E D xTimes : ℕ → ℕ) (sum : ℕ → List ℕ → ℕ) → Parts E D xTimes sum → (T n : ℕ) → Block T → 16 ≤ n
-      → Cipher n (encipher E xTimes sum T) (decipher E D xTimes sum T)
+  pub scheme-cipher : (E D timesX : ℕ → ℕ) (sum : ℕ → List ℕ → ℕ) → Parts E D timesX sum → (T n : ℕ) → IsBlock T → 16 ≤ n
+      → Cipher n (encipher E timesX sum T) (decipher E D timesX sum T)
   -- And exactly one message of n bytes enciphers to each, deciphering gives it, and the count is 1.
-  pub scheme-one-plaintext : (E D xTimes : ℕ → ℕ) (sum : ℕ → List ℕ → ℕ) → Parts E D xTimes sum → (T n : ℕ) → Block T → 16 ≤ n
-      → (C : List ℕ) → OfLength n C → OnePreimage n (encipher E xTimes sum T) C (decipher E D xTimes sum T C)
+  pub scheme-one-plaintext : (E D timesX : ℕ → ℕ) (sum : ℕ → List ℕ → ℕ) → Parts E D timesX sum → (T n : ℕ) → IsBlock T → 16 ≤ n
+      → (C : List ℕ) → OfLength n C → OnePreimage n (encipher E timesX sum T) C (decipher E D timesX sum T C)
   -- The paper's section II-A: a message of one block.
-  pub one-block : (E xTimes : ℕ → ℕ) (T : ℕ) (P : List ℕ) → length P ≡ 16
-      → let Q = E (E T ⊕ bin 128) in encipher E xTimes keyedSum T P ≡ bytes 16 (xTimes Q ⊕ E (number P ⊕ Q))
+  pub one-block : (E timesX : ℕ → ℕ) (T : ℕ) (P : List ℕ) → length P ≡ 16
+      → let Q = E (E T ⊕ bin 128) in encipher E timesX powerSum T P ≡ bytes 16 (timesX Q ⊕ E (number P ⊕ Q))
   -- 01's step by x and the sum of formula (1) serve every block permutation in the place of AES.
-  pub own-parts : (c : BlockCipher) → BlockPermutation c → Parts (c .E) (c .D) xTimes keyedSum
-  pub permutation-one-plaintext : (c : BlockCipher) → BlockPermutation c → (T n : ℕ) → Block T → 16 ≤ n
-      → (C : List ℕ) → OfLength n C → OnePreimage n (encipher (c .E) xTimes keyedSum T) C (decipher (c .E) (c .D) xTimes keyedSum T C)
+  pub own-parts : (c : BlockCipher) → BlockPermutation c → Parts (c .E) (c .D) timesX powerSum
+  pub permutation-one-plaintext : (c : BlockCipher) → BlockPermutation c → (T n : ℕ) → IsBlock T → 16 ≤ n
+      → (C : List ℕ) → OfLength n C → OnePreimage n (encipher (c .E) timesX powerSum T) C (decipher (c .E) (c .D) timesX powerSum T C)
   -- AES is one of them: HCH, for every key and every tweak of 16 bytes. The second is the first half of demand 3.
   pub hch-cipher : (key tweak : List ℕ) (n : ℕ) → OfLength 16 tweak → 16 ≤ n → Cipher n (enciphered key tweak) (deciphered key tweak)
   pub one-plaintext : (key tweak : List ℕ) (n : ℕ) → OfLength 16 tweak → 16 ≤ n

@@ -2,12 +2,13 @@
 ghost use Prim.Native.Nat.{_+_, _*_, _/_, _≤_};
 ghost use mathlib.Core.Path.{_≡_};
 ghost use lib.ListN.{length, drop};
-ghost use Rattle.blocks.specs.Xor.{_⊕_};
-ghost use Rattle.blocks.specs.Bytes.{bytes, block, blocks, overwrite};
-ghost use Rattle.blocks.specs.Field.{xTimes, keyedSum};
-ghost use Rattle.blocks.specs.Block.{value};
-ghost use Rattle.blocks.specs.Key.{under};
-ghost use Rattle.blocks.specs.Call.{leftBy};
+ghost use Rattle.strings.specs.Xor.{_⊕_};
+ghost use Rattle.strings.specs.Bytes.{bytes};
+ghost use Rattle.strings.specs.Inner.{overwrite};
+ghost use Rattle.blocks.specs.Blocks.{firstBlock, blocks};
+ghost use Rattle.blocks.specs.BlockField.{timesX, powerSum};
+ghost use Rattle.blocks.specs.Inner.{value, under};
+ghost use Rattle.strings.specs.Call.{leftBy};
 ghost use Rattle.hch.specs.Hch.{bin, H as polynomialHash, ctrBytes, fromI, encipher, decipher, enciphered, deciphered};
 ghost use Rattle.hch.specs.Call.{numberOf, answerOf, OnePlaintext};
 use blocks::aes::ExpandedKey;
@@ -78,14 +79,14 @@ fn hash_q(key: ExpandedKey, r: Block, length: usize) -> Block
 // Formula (1): the first block by itself, the others where they stand in `data`, behind the first 16 bytes.
 fn hash(r: Block, q: Block, first: Block, data: &[u8]) -> Block
     requires { ⌜ 16 ≤ length (now «data») ⌝ }
-    ensures { λ x. ⌜ value x ≡ polynomialHash keyedSum (value r) (value q) (value first) (blocks (drop 16 (now («data» .entry)))) ⌝ }
+    ensures { λ x. ⌜ value x ≡ polynomialHash powerSum (value r) (value q) (value first) (blocks (drop 16 (now («data» .entry)))) ⌝ }
 {
     q.xor(first).xor(field::power_sum(r, &data[16..]))
 }
 
 // Adds E(S ⊕ bin(at / 16 + 1)) to the block at `at`, cut where `data` ends.
 fn mask_block(key: ExpandedKey, s: Block, data: &mut [u8], at: usize)
-    ensures { λ _. ⌜ now («data» .exit) ≡ overwrite at (bytes 16 (block (drop at (now («data» .entry))) ⊕ under key .E (value s ⊕ bin (at / 16 + 1)))) (now («data» .entry)) ⌝ }
+    ensures { λ _. ⌜ now («data» .exit) ≡ overwrite at (bytes 16 (firstBlock (drop at (now («data» .entry))) ⊕ under key .E (value s ⊕ bin (at / 16 + 1)))) (now («data» .entry)) ⌝ }
 {
     let mask = key.encipher(xor_bin(s, at / 16 + 1));
     Block::read(data, at).xor(mask).write(data, at);
@@ -105,7 +106,7 @@ fn counter(key: ExpandedKey, s: Block, data: &mut [u8])
 // Table II from I on: the counter step on the bytes from 16 on, and the hash of what they are then, in the place of the first block.
 fn finish(key: ExpandedKey, r: Block, q: Block, i: Block, first: Block, data: &mut [u8])
     requires { ⌜ 16 ≤ length (now «data») ⌝ }
-    ensures { λ _. ⌜ now («data» .exit) ≡ fromI (under key .E) keyedSum (value r) (value q) (value i) (value first) (drop 16 (now («data» .entry))) ⌝ }
+    ensures { λ _. ⌜ now («data» .exit) ≡ fromI (under key .E) powerSum (value r) (value q) (value i) (value first) (drop 16 (now («data» .entry))) ⌝ }
 {
     let s = key.encipher(i);
     counter(key, s, &mut data[16..]);
@@ -115,7 +116,7 @@ fn finish(key: ExpandedKey, r: Block, q: Block, i: Block, first: Block, data: &m
 // Table II, left.
 fn encipher_message(key: ExpandedKey, tweak: Block, data: &mut [u8])
     requires { ⌜ (16 ≤ length (now «data»)) × (length (now «data») ≤ 4096) ⌝ }
-    ensures { λ _. ⌜ now («data» .exit) ≡ encipher (under key .E) xTimes keyedSum (value tweak) (now («data» .entry)) ⌝ }
+    ensures { λ _. ⌜ now («data» .exit) ≡ encipher (under key .E) timesX powerSum (value tweak) (now («data» .entry)) ⌝ }
 {
     let r = key.encipher(tweak);
     let q = hash_q(key, r, data.len());
@@ -128,7 +129,7 @@ fn encipher_message(key: ExpandedKey, tweak: Block, data: &mut [u8])
 // Table II, right.
 fn decipher_message(key: ExpandedKey, tweak: Block, data: &mut [u8])
     requires { ⌜ (16 ≤ length (now «data»)) × (length (now «data») ≤ 4096) ⌝ }
-    ensures { λ _. ⌜ now («data» .exit) ≡ decipher (under key .E) (under key .D) xTimes keyedSum (value tweak) (now («data» .entry)) ⌝ }
+    ensures { λ _. ⌜ now («data» .exit) ≡ decipher (under key .E) (under key .D) timesX powerSum (value tweak) (now («data» .entry)) ⌝ }
 {
     let r = key.encipher(tweak);
     let q = hash_q(key, r, data.len());

@@ -10,10 +10,11 @@ use borrow.Author.Tests.{le-leb, leb-true, eq-eqb}
 use lib.Dec.{leb}
 use lib.ListN.{length, getD, take, drop, replicate, length-append, length-replicate, length-drop, length-take, take-append-drop}
 use lib.Seq.{drop-cons, drop-drop, drop-at, take-all, take-at, length-take-le}
-use Rattle.blocks.specs.Bytes.{Bytes, OfLength, number, bytes, equal, overwrite}
-use Rattle.blocks.proofs.Bytes.{length-bytes, bytes-below, bytes-number, number-bytes, below-append, below-take, below-drop}
-use Rattle.blocks.proofs.Place.{overwrite-append, overwrite-whole}
-use Rattle.blocks.proofs.One.{both, equal-append, equal-refl, equal-true}
+use Rattle.strings.specs.Bytes.{Bytes, OfLength, number, bytes, equal}
+use Rattle.strings.specs.Inner.{overwrite}
+use Rattle.strings.proofs.Bytes.{length-bytes, bytes-below, bytes-number, number-bytes, below-append, below-take, below-drop}
+use Rattle.strings.proofs.Place.{overwrite-append, overwrite-whole}
+use Rattle.strings.proofs.Equal.{both, equal-append, equal-refl, equal-true}
 use Rattle.layout.specs.Layout.{check, plainBlock, tweak, used, passes, fits, payloadLength}
 
 -- u is two bytes.

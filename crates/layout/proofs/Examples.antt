@@ -3,7 +3,7 @@
 use mathlib.Core.Path.{_≡_, refl}
 use mathlib.Core.List.{[], _∷_}
 use lib.ListN.{drop, replicate}
-use Rattle.blocks.specs.Bytes.{bytes}
+use Rattle.strings.specs.Bytes.{bytes}
 use Rattle.layout.specs.Layout.{check, plainBlock, tweak}
 
 -- P12: pack 1, place 258 has the tweak 00 00 00 00 00 00 00 01 00 00 00 00 00 00 01 02.

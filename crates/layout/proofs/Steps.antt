@@ -11,8 +11,9 @@ use lib.Bits.{bitOr, bitXor, or-zero-l, or-zero-r, or-add-and, and-le-l, and-le-
 use lib.Dec.{eqb, eqb·suc-zero}
 use lib.ListN.{length, getD, take, drop, set}
 use lib.Seq.{drop-cons}
-use Rattle.blocks.specs.Bytes.{bytes, equal, overwrite}
-use Rattle.blocks.proofs.Place.{overwrite-cons}
+use Rattle.strings.specs.Bytes.{bytes, equal}
+use Rattle.strings.specs.Inner.{overwrite}
+use Rattle.strings.proofs.Place.{overwrite-cons}
 
 -- Copying from the last byte on: the next byte.
 pub copy-next : (s t : List ℕ) (k : ℕ) → k < length t → set (overwrite (k + 1) (drop (k + 1) t) s) k (getD t k 0) ≡ overwrite k (drop k t) s

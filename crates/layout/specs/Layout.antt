@@ -4,7 +4,7 @@ use mathlib.Core.Bool.{Bool, cond, _&&_}
 use mathlib.Core.List.{List, _++_}
 use lib.Dec.{leb, eqb}
 use lib.ListN.{length, take, drop, replicate}
-use Rattle.blocks.specs.Bytes.{number, bytes, equal}
+use Rattle.strings.specs.Bytes.{number, bytes, equal}
 
 -- 01, "Bytes 496 to 511 and the zero filling are the block's own check": all that stands behind a payload of u bytes.
 unfoldable pub check : (u pack place : ℕ) → List ℕ

@@ -4,7 +4,8 @@ ghost use mathlib.Core.Path.{_≡_};
 ghost use mathlib.Core.Bool.{cond};
 ghost use lib.Dec.{eqb};
 ghost use lib.ListN.{length, take, drop};
-ghost use Rattle.blocks.specs.Bytes.{bytes, equal, overwrite};
+ghost use Rattle.strings.specs.Bytes.{bytes, equal};
+ghost use Rattle.strings.specs.Inner.{overwrite};
 ghost use Rattle.layout.specs.Layout.{check, plainBlock, tweak as tweakOf, used as usedOf, passes as passesCheck, fits, payloadLength};
 
 // Writes a number in n bytes from place `at` on, its lowest byte last.

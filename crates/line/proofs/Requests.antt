@@ -15,7 +15,7 @@ use Rattle.text.specs.Part.{before, splitFrom, split}
 use Rattle.text.specs.declared.hex.Decoded.{Decoded}
 use Rattle.text.specs.declared.hex.Decoded.the-variants.{Bytes, Refused}
 use Rattle.text.proofs.Digits.{even-digits, split-digits, hex-unhex, unhex-hex, isHex-hex, decoded-is, decoded-not, decoded-whole, field-is, field-not}
-use Rattle.blocks.proofs.Place.{part-behind}
+use Rattle.strings.proofs.Place.{part-behind}
 use Rattle.text.proofs.Parts.{split-none, split-first}
 use Rattle.line.specs.Line.{Request, Unknown, commanded, requested, requestOf, refusal, replyTo, answer}
 

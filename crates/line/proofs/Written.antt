@@ -15,7 +15,7 @@ use Rattle.text.specs.Hex.{hex, fitting, encodedIn}
 use Rattle.text.specs.Part.{appended}
 use Rattle.text.proofs.Digits.{length-hex}
 use Rattle.text.proofs.Parts.{appended-none, appended-twice, appended-front, length-appended}
-use Rattle.blocks.specs.Call.{leftBy}
+use Rattle.strings.specs.Call.{leftBy}
 use Rattle.hch.specs.Call.{numberOf, answerOf}
 use Rattle.hch.specs.declared.Answer.{Answer}
 use Rattle.hch.specs.declared.Answer.the-variants.{Done, KeyLength, TweakLength, TooShort, TooLong}

@@ -9,11 +9,12 @@ use borrow.Author.Tests.{eqb-true, ltb-false, eq-eqb, le-ltb}
 use lib.Dec.{ltb, eqb}
 use lib.ListN.{length, getD, take}
 use lib.Seq.{length-take-le}
-use Rattle.blocks.specs.Bytes.{Bytes, OfLength, equal}
-use Rattle.blocks.specs.Call.{leftBy}
-use Rattle.blocks.specs.Permutation.{Cipher, TweakableCipher}
-use Rattle.blocks.proofs.Bytes.{below-take}
-use Rattle.blocks.proofs.One.{both, equal-refl, equal-true, one-string}
+use Rattle.strings.specs.Bytes.{Bytes, OfLength, equal}
+use Rattle.strings.specs.Call.{leftBy}
+use Rattle.strings.specs.Cipher.{Cipher, TweakableCipher}
+use Rattle.strings.proofs.Bytes.{below-take}
+use Rattle.strings.proofs.Equal.{both, equal-refl, equal-true}
+use Rattle.strings.proofs.One.{one-string}
 use Rattle.layout.specs.Layout.{plainBlock, tweak, used, payloadOf, passes}
 use Rattle.pack.specs.Sealing.{seal, WithinLimits}
 use Rattle.pack.specs.Opening.{numberOf, valuesOf, decipheredBlock, answerOf, opensTo, OneBlock, NoPayload, Meaning}
@@ -77,7 +78,7 @@ module _ (D : List ℕ → List ℕ → List ℕ → List ℕ) (key : List ℕ) 
 
 -- ---- over any tweakable cipher of 512 bytes
 
-module _ (E D : List ℕ → List ℕ → List ℕ → List ℕ) (key : List ℕ) (cipher : TweakableCipher 512 (E key) (D key)) (pack place : ℕ) where
+module _ (E D : List ℕ → List ℕ → List ℕ → List ℕ) (key : List ℕ) (cipher : TweakableCipher 16 512 (E key) (D key)) (pack place : ℕ) where
   at-tweak : Cipher 512 (E key (tweak pack place)) (D key (tweak pack place))
   at-tweak = cipher (tweak pack place) (tweak-of-length pack place)
 

@@ -5,9 +5,9 @@ use mathlib.Core.Bool.{Bool, cond, not, _&&_}
 use mathlib.Core.List.{List, [], _∷_}
 use lib.Dec.{ltb, eqb}
 use lib.ListN.{length, take}
-use Rattle.blocks.specs.Bytes.{Bytes, equal}
-use Rattle.blocks.specs.One.{OneString}
-use Rattle.blocks.specs.Call.{leftBy}
+use Rattle.strings.specs.Bytes.{Bytes, equal}
+use Rattle.strings.specs.One.{OneString}
+use Rattle.strings.specs.Call.{leftBy}
 use Rattle.layout.specs.Layout.{tweak, used, payloadOf, passes}
 use Rattle.pack.specs.Sealing.{seal}
 use Rattle.pack.specs.declared.opening.Opened.{Opened}

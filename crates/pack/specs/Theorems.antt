@@ -4,8 +4,8 @@ use mathlib.Core.Path.{_≡_}
 use mathlib.Core.Bool.{true}
 use mathlib.Core.List.{List}
 use lib.ListN.{length, take}
-use Rattle.blocks.specs.Bytes.{OfLength}
-use Rattle.blocks.specs.Permutation.{TweakableCipher}
+use Rattle.strings.specs.Bytes.{OfLength}
+use Rattle.strings.specs.Cipher.{TweakableCipher}
 use Rattle.hch.specs.Hch.{enciphered, deciphered}
 use Rattle.layout.specs.Layout.{plainBlock}
 use Rattle.pack.specs.Sealing.{seal, WithinLimits}
@@ -31,8 +31,8 @@ pub record Pack (E D : List ℕ → List ℕ → List ℕ → List ℕ) (key : L
 
 pub record Theorems : Type 0 where
   -- For every tweakable cipher of 512 bytes in the place of HCH.
-  pub any-cipher : (E D : List ℕ → List ℕ → List ℕ → List ℕ) (key : List ℕ) → length key ≡ 16 → TweakableCipher 512 (E key) (D key) → Pack E D key
+  pub any-cipher : (E D : List ℕ → List ℕ → List ℕ → List ℕ) (key : List ℕ) → length key ≡ 16 → TweakableCipher 16 512 (E key) (D key) → Pack E D key
   -- HCH under every key is one.
-  pub hch-tweakable : (key : List ℕ) → TweakableCipher 512 (enciphered key) (deciphered key)
+  pub hch-tweakable : (key : List ℕ) → TweakableCipher 16 512 (enciphered key) (deciphered key)
   -- So this holds for HCH with AES: the second half of demand 3.
   pub hch-pack : (key : List ℕ) → length key ≡ 16 → Pack enciphered deciphered key

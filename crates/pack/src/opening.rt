@@ -1,6 +1,6 @@
 // Opening a sealed block as that of a pack and a place.
 ghost use mathlib.Core.Path.{_≡_};
-ghost use Rattle.blocks.specs.Call.{leftBy};
+ghost use Rattle.strings.specs.Call.{leftBy};
 ghost use Rattle.hch.specs.Hch.{enciphered, deciphered};
 ghost use Rattle.pack.specs.Opening.{numberOf, decipheredBlock, answerOf, Meaning};
 use crate::cipher;

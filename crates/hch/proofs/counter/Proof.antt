@@ -6,12 +6,11 @@ use mathlib.Core.List.{_++_, append-nil}
 use native.Mathlib.Omega.{arith}
 use lib.ListN.{length, take, drop, drop-of-length-le}
 use lib.Seq.{take-all}
-use Rattle.blocks.specs.Xor.{_⊕_}
+use Rattle.strings.specs.Xor.{_⊕_}
 use Rattle.blocks.specs.Counter.{maskedBytes}
-use Rattle.blocks.specs.Block.{value}
-use Rattle.blocks.specs.Key.{under}
+use Rattle.blocks.specs.Inner.{value, under}
 use Rattle.blocks.proofs.Counter.{masked-nil, masked-next}
-use Rattle.blocks.proofs.Place.{length-overwrite}
+use Rattle.strings.proofs.Place.{length-overwrite}
 use Rattle.hch.specs.Hch.{bin, ctrBytes}
 use Rattle.hch.proofs.counter.Statement.{statement}
 use Rattle.hch.proofs.counter.Tie as tie

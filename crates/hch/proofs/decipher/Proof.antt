@@ -5,7 +5,7 @@ use borrow.Author.Needs.{needs}
 use denote.Ref.{now}
 use lib.ListN.{length}
 use Rattle.blocks.specs.Aes.{aes}
-use Rattle.blocks.proofs.Bytes.{block-whole}
+use Rattle.blocks.proofs.Blocks.{block-whole}
 use Rattle.hch.specs.Hch.{deciphered}
 use Rattle.hch.proofs.Call.{admitted, not-done, refused}
 use Rattle.hch.proofs.Theorems.{one-plaintext}

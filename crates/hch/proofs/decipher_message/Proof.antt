@@ -2,9 +2,8 @@
 -- Assumes nothing.
 use borrow.Author.Needs.{needs}
 use denote.Ref.{now}
-use Rattle.blocks.specs.Field.{xTimes, keyedSum}
-use Rattle.blocks.specs.Block.{value}
-use Rattle.blocks.specs.Key.{under}
+use Rattle.blocks.specs.BlockField.{timesX, powerSum}
+use Rattle.blocks.specs.Inner.{value, under}
 use Rattle.hch.proofs.Steps.{deciphering}
 use Rattle.hch.proofs.decipher_message.Statement.{statement}
 use Rattle.hch.proofs.decipher_message.Tie as tie
@@ -58,7 +57,7 @@ returns c =
       l .hash-q .ensures,
       e .encipher .ensures,
     )
-    (deciphering (cipher .E) (cipher .D) xTimes keyedSum (value (start .args .tweak)) (now (start .args .«data»)) (start .pre .0))
+    (deciphering (cipher .E) (cipher .D) timesX powerSum (value (start .args .tweak)) (now (start .args .«data»)) (start .pre .0))
 
 pub decipher-message-spec : {M : Type 1} → statement M
 decipher-message-spec =

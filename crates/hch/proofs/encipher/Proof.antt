@@ -4,7 +4,7 @@ use mathlib.Core.Path.{sym, _∙_}
 use borrow.Author.Needs.{needs}
 use denote.Ref.{now}
 use Rattle.blocks.specs.Aes.{aes}
-use Rattle.blocks.proofs.Bytes.{block-whole}
+use Rattle.blocks.proofs.Blocks.{block-whole}
 use Rattle.hch.specs.Hch.{enciphered}
 use Rattle.hch.proofs.Call.{admitted, refused}
 use Rattle.hch.proofs.encipher.Statement.{statement}

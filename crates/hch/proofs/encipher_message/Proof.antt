@@ -2,9 +2,8 @@
 -- Assumes nothing.
 use borrow.Author.Needs.{needs}
 use denote.Ref.{now}
-use Rattle.blocks.specs.Field.{xTimes, keyedSum}
-use Rattle.blocks.specs.Block.{value}
-use Rattle.blocks.specs.Key.{under}
+use Rattle.blocks.specs.BlockField.{timesX, powerSum}
+use Rattle.blocks.specs.Inner.{value, under}
 use Rattle.hch.proofs.Steps.{enciphering}
 use Rattle.hch.proofs.encipher_message.Statement.{statement}
 use Rattle.hch.proofs.encipher_message.Tie as tie
@@ -57,7 +56,7 @@ returns c =
       l .hash-q .ensures,
       e .encipher .ensures,
     )
-    (enciphering (cipher .E) xTimes keyedSum (value (start .args .tweak)) (now (start .args .«data»)) (start .pre .0))
+    (enciphering (cipher .E) timesX powerSum (value (start .args .tweak)) (now (start .args .«data»)) (start .pre .0))
 
 pub encipher-message-spec : {M : Type 1} → statement M
 encipher-message-spec =

@@ -2,7 +2,7 @@
 -- Assumes nothing.
 use borrow.Author.Needs.{needs}
 use denote.Ref.{now}
-use Rattle.blocks.proofs.Place.{part-behind}
+use Rattle.strings.proofs.Place.{part-behind}
 use Rattle.hch.specs.Hch.{H}
 use Rattle.hch.proofs.hash.Statement.{statement}
 use Rattle.hch.proofs.hash.Tie as tie

@@ -5,9 +5,9 @@ use mathlib.Core.Path.{_≡_, _∙_}
 use native.Mathlib.Nat.{mod-eq-of-lt, lt-of-lt-of-le, pow-le-pow-right}
 use borrow.Author.Needs.{needs}
 use lib.Dec.{lit<, lit≤}
-use Rattle.blocks.specs.Xor.{_⊕_}
-use Rattle.blocks.specs.Block.{value}
-use Rattle.blocks.proofs.Xor.{xor-comm}
+use Rattle.strings.specs.Xor.{_⊕_}
+use Rattle.blocks.specs.Inner.{value}
+use Rattle.strings.proofs.Xor.{xor-comm}
 use Rattle.blocks.proofs.Halves.{halves-reduced}
 use Rattle.hch.specs.Hch.{bin}
 use Rattle.hch.proofs.xor_bin.Statement.{statement}

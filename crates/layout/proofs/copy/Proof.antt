@@ -6,8 +6,8 @@ use native.Mathlib.Omega.{arith}
 use denote.Ref.{now}
 use lib.ListN.{length, drop}
 use lib.Seq.{drop-length}
-use Rattle.blocks.specs.Bytes.{overwrite}
-use Rattle.blocks.proofs.Place.{overwrite-nil, length-overwrite}
+use Rattle.strings.specs.Inner.{overwrite}
+use Rattle.strings.proofs.Place.{overwrite-nil, length-overwrite}
 use Rattle.layout.proofs.Steps.{copy-next}
 use Rattle.layout.proofs.copy.Statement.{statement}
 use Rattle.layout.proofs.copy.Tie as tie

@@ -6,8 +6,8 @@ use native.Mathlib.Nat.{sub-zero, add-zero}
 use native.Mathlib.Omega.{arith}
 use denote.Ref.{now}
 use lib.ListN.{take, drop}
-use Rattle.blocks.specs.Bytes.{bytes, equal}
-use Rattle.blocks.proofs.Place.{rest-next}
+use Rattle.strings.specs.Bytes.{bytes, equal}
+use Rattle.strings.proofs.Place.{rest-next}
 use Rattle.layout.proofs.Steps.{differ-next}
 use lib.Dec.{eqb}
 use Rattle.layout.proofs.difference.Statement.{statement}

@@ -8,7 +8,7 @@ use borrow.Author.Tests.{lt-leb}
 use denote.Ref.{now}
 use lib.Dec.{eqb}
 use lib.ListN.{take, drop}
-use Rattle.blocks.specs.Bytes.{bytes, equal}
+use Rattle.strings.specs.Bytes.{bytes, equal}
 use Rattle.layout.specs.Layout.{used as usedOf, passes as passesCheck}
 use Rattle.layout.proofs.Steps.{none-of-four}
 use Rattle.layout.proofs.Check.{passes-parts}

@@ -5,8 +5,9 @@ use mathlib.Core.Path.{_≡_}
 use native.Mathlib.Nat.{sub-zero, add-zero}
 use native.Mathlib.Omega.{arith}
 use denote.Ref.{now}
-use Rattle.blocks.specs.Bytes.{bytes, overwrite}
-use Rattle.blocks.proofs.Place.{overwrite-nil, overwrite-next, length-overwrite, rest-next}
+use Rattle.strings.specs.Bytes.{bytes}
+use Rattle.strings.specs.Inner.{overwrite}
+use Rattle.strings.proofs.Place.{overwrite-nil, overwrite-next, length-overwrite, rest-next}
 use Rattle.layout.proofs.put.Statement.{statement}
 use Rattle.layout.proofs.put.Tie as tie
 

@@ -1,7 +1,8 @@
 -- Both numbers are written into zeros.
 -- Assumes nothing.
 use borrow.Author.Needs.{needs}
-use Rattle.blocks.specs.Bytes.{bytes, overwrite}
+use Rattle.strings.specs.Bytes.{bytes}
+use Rattle.strings.specs.Inner.{overwrite}
 use Rattle.layout.specs.Layout.{tweak as tweakOf}
 use Rattle.layout.proofs.tweak.Statement.{statement}
 use Rattle.layout.proofs.tweak.Tie as tie

@@ -5,8 +5,8 @@ use mathlib.Core.Path.{_≡_, sym, ap, _∙_}
 use denote.Ref.{now}
 use lib.Arith.{digits-div}
 use lib.ListN.{drop}
-use Rattle.blocks.specs.Bytes.{block}
-use Rattle.blocks.specs.Block.{value}
+use Rattle.blocks.specs.Blocks.{firstBlock}
+use Rattle.blocks.specs.Inner.{value}
 use Rattle.blocks.proofs.Words.{read-word}
 use borrow.Author.Needs.{needs}
 use Rattle.blocks.proofs.aes.own_word.Statement.{statement}
@@ -26,7 +26,7 @@ unfolding value
 returns c =
     let a = c .before .before .before .args in
     let b = c .before .read .result in
-    let high : b .hi ≡ block (drop (4 * a .i) (now (a .key))) / 2 ^ 64 =
+    let high : b .hi ≡ firstBlock (drop (4 * a .i) (now (a .key))) / 2 ^ 64 =
     sym (digits-div (b .hi) (search needs)) ∙ ap (λ (x : ℕ). x / 2 ^ 64) (c .before .read .ensures) in
     rw high (read-word (a .i) (now (a .key)) (λ k. c .before .before .shared-slice-known .given k .fits))
 

@@ -1,17 +1,18 @@
--- Each byte through the box, one place on.
+-- Each byte through the S-box, one place on.
 -- Assumes nothing.
 use Prim.Native.Nat.{ℕ}
 use mathlib.Core.Path.{_≡_, sym, _∙_}
 use mathlib.Core.List.{List}
 use denote.Ref.{now}
 use lib.ListN.{getD}
-use Rattle.blocks.specs.Aes.{Table, box, byteOf}
+use Rattle.blocks.specs.Inner.{Table}
+use Rattle.blocks.specs.Aes.{sBox, byteOf}
 use Rattle.blocks.proofs.Words.{byteOf-below, sub-rot}
 use borrow.Author.Needs.{needs}
 use Rattle.blocks.proofs.aes.sub_rot_word.Statement.{statement}
 use Rattle.blocks.proofs.aes.sub_rot_word.Tie as tie
 
-entry : (t : List ℕ) → Table box t → (w i : ℕ) {b l : ℕ} → b ≡ byteOf w i → l ≡ getD t b 0 → l ≡ box (byteOf w i)
+entry : (t : List ℕ) → Table sBox t → (w i : ℕ) {b l : ℕ} → b ≡ byteOf w i → l ≡ getD t b 0 → l ≡ sBox (byteOf w i)
 entry t h w i e f = f ∙ rw e (h .entry (byteOf w i) (byteOf-below w i))
 
 byte-requires : tie.Need-byte-requires

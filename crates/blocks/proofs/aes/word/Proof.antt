@@ -1,7 +1,7 @@
 -- The four bytes, added up from the highest.
 -- Assumes nothing.
 use native.Mathlib.Omega.{arith}
-use Rattle.blocks.specs.Bytes.{number}
+use Rattle.strings.specs.Bytes.{number}
 use Rattle.blocks.specs.Aes.{word}
 use borrow.Author.Needs.{needs}
 use Rattle.blocks.proofs.aes.word.Statement.{statement}

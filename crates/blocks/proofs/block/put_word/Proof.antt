@@ -8,8 +8,9 @@ use native.Mathlib.Omega.{arith}
 use denote.Ref.{now}
 use lib.ListN.{set}
 use lib.Seq.{set-out}
-use Rattle.blocks.specs.Bytes.{bytes, overwrite}
-use Rattle.blocks.proofs.Place.{overwrite-nil, overwrite-next, length-overwrite, rest-next}
+use Rattle.strings.specs.Bytes.{bytes}
+use Rattle.strings.specs.Inner.{overwrite}
+use Rattle.strings.proofs.Place.{overwrite-nil, overwrite-next, length-overwrite, rest-next}
 use Rattle.blocks.proofs.block.put_word.Statement.{statement}
 use Rattle.blocks.proofs.block.put_word.Tie as tie
 

@@ -6,9 +6,10 @@ use native.Mathlib.Omega.{arith}
 use mathlib.Core.Logic.{⊎-elim}
 use denote.Ref.{now}
 use lib.ListN.{getD, drop, List·getD-eq-default}
-use Rattle.blocks.specs.Bytes.{Bytes, number}
-use Rattle.blocks.proofs.Bytes.{padded}
-use Rattle.blocks.proofs.Place.{number-next, number-fits, high-half}
+use Rattle.strings.specs.Bytes.{Bytes, number}
+use Rattle.strings.proofs.Bytes.{padded}
+use Rattle.strings.proofs.Place.{number-next, number-fits}
+use Rattle.blocks.proofs.Blocks.{high-half}
 use Rattle.blocks.proofs.block.word.Statement.{statement}
 use Rattle.blocks.proofs.block.word.Tie as tie
 

@@ -8,11 +8,11 @@ use borrow.Author.Needs.{needs}
 use denote.Ref.{now}
 use lib.ListN.{length, drop, length-drop, drop-of-length-le}
 use lib.Seq.{drop-drop}
-use Rattle.blocks.specs.Xor.{_⊕_}
-use Rattle.blocks.specs.Bytes.{block, blocks}
-use Rattle.blocks.specs.Field.{_•_, horner}
-use Rattle.blocks.specs.Block.{value}
-use Rattle.blocks.proofs.Bytes.{blocks-nil, blocks-cons, blocks-below}
+use Rattle.strings.specs.Xor.{_⊕_}
+use Rattle.blocks.specs.Blocks.{firstBlock, blocks}
+use Rattle.blocks.specs.BlockField.{_·_}
+use Rattle.blocks.specs.Inner.{horner, value}
+use Rattle.blocks.proofs.Blocks.{blocks-nil, blocks-cons, blocks-below}
 use Rattle.blocks.proofs.Halves.{value-below}
 use Rattle.blocks.proofs.Horner.{horner-rule}
 use Rattle.blocks.proofs.Ring.{ring-of-blocks}
@@ -20,12 +20,12 @@ use Rattle.blocks.proofs.field.power_sum.Statement.{statement}
 use Rattle.blocks.proofs.field.power_sum.Tie as tie
 
 -- one block more
-next : (K S at : ℕ) (s : List ℕ) → at < length s → horner _•_ K S (blocks (drop at s)) ≡ horner _•_ K ((S ⊕ block (drop at s)) • K) (blocks (drop (at + 16) s))
+next : (K S at : ℕ) (s : List ℕ) → at < length s → horner _·_ K S (blocks (drop at s)) ≡ horner _·_ K ((S ⊕ firstBlock (drop at s)) · K) (blocks (drop (at + 16) s))
 unfolding horner
 next K S at s h = rw (blocks-cons (drop at s) (rw length-drop (omega arith)), drop-drop 16 at s)
 
 abbrev Inv-loop : tie.InvT-loop
-Inv-loop key s sum₀ at₀ sum at = horner _•_ (value key) (value sum) (blocks (drop at s)) ≡ horner _•_ (value key) 0 (blocks s)
+Inv-loop key s sum₀ at₀ sum at = horner _·_ (value key) (value sum) (blocks (drop at s)) ≡ horner _·_ (value key) 0 (blocks s)
 
 abbrev μ-loop : tie.MeasureT-loop
 μ-loop key s sum₀ at₀ sum at = length s - at
@@ -54,8 +54,8 @@ loop-again c =
     let l = c .before .before .before .before .loop in
     let args = c .before .before .before .before .before .before .args in
     let K : ℕ = value (args .key) in
-    let turn : value (c .product .result) ≡ (value (l .sum) ⊕ block (drop (l .at) (now (args .«data»)))) • K =
-    c .product .ensures ∙ ap (λ (x : ℕ). x • K) (c .before .xor .ensures ∙ ap (λ (x : ℕ). value (l .sum) ⊕ x) (c .before .before .read .ensures)) in
+    let turn : value (c .product .result) ≡ (value (l .sum) ⊕ firstBlock (drop (l .at) (now (args .«data»)))) · K =
+    c .product .ensures ∙ ap (λ (x : ℕ). x · K) (c .before .xor .ensures ∙ ap (λ (x : ℕ). value (l .sum) ⊕ x) (c .before .before .read .ensures)) in
     rw turn (sym (next K (value (l .sum)) (l .at) (now (args .«data»)) (c .before .before .before .loop-test .taken)) ∙ l .inv)
 
 returns : tie.Need-returns Inv-loop μ-loop

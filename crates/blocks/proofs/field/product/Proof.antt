@@ -4,9 +4,9 @@ use Prim.Native.Nat.{ℕ, _-_, _*_, _/_, _%_, _^_, _≤_, _<_}
 use native.Mathlib.Nat.{mul-one, mod-eq-of-lt, div-one}
 use native.Mathlib.Omega.{arith}
 use borrow.Author.Needs.{needs}
-use Rattle.blocks.specs.Xor.{_⊕_}
+use Rattle.strings.specs.Xor.{_⊕_}
 use Rattle.blocks.specs.Field.{times01, timesX, productN, product}
-use Rattle.blocks.specs.Block.{value}
+use Rattle.blocks.specs.Inner.{value}
 use Rattle.blocks.proofs.Halves.{value-below}
 use Rattle.blocks.proofs.Steps.{product-step, rest-step}
 use Rattle.blocks.proofs.field.product.Statement.{statement}

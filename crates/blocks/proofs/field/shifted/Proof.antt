@@ -1,7 +1,7 @@
 -- What falls out of the low half comes into the high one.
 use borrow.Author.Needs.{needs}
-use Rattle.blocks.specs.Block.{value}
-use Rattle.blocks.specs.Xor.{_⊕_}
+use Rattle.blocks.specs.Inner.{value}
+use Rattle.strings.specs.Xor.{_⊕_}
 use Rattle.blocks.proofs.Halves.{halves-shifted}
 use Rattle.blocks.proofs.field.shifted.Statement.{statement}
 use Rattle.blocks.proofs.field.shifted.Tie as tie

@@ -3,7 +3,7 @@ use borrow.Author.Needs.{needs}
 use mathlib.Core.Path.{_≡_, refl, ap₂, _∙_}
 use Prim.Native.Nat.{ℕ, zero, suc, _+_, _*_, _^_}
 use Rattle.blocks.specs.Field.{times01}
-use Rattle.blocks.specs.Block.{value}
+use Rattle.blocks.specs.Inner.{value}
 use Rattle.blocks.proofs.field.times_bit.Statement.{statement}
 use Rattle.blocks.proofs.field.times_bit.Tie as tie
 

@@ -2,9 +2,9 @@
 use borrow.Author.Needs.{needs}
 use mathlib.Core.Path.{_∙_, ap, ap₂, sym}
 use Prim.Native.Nat.{ℕ, _^_, _<_}
-use Rattle.blocks.specs.Xor.{_⊕_}
+use Rattle.strings.specs.Xor.{_⊕_}
 use Rattle.blocks.specs.Field.{times01, timesX}
-use Rattle.blocks.specs.Block.{value}
+use Rattle.blocks.specs.Inner.{value}
 use Rattle.blocks.proofs.Halves.{value-below, halves-reduced, fallen}
 use Rattle.blocks.proofs.field.times_x.Statement.{statement}
 use Rattle.blocks.proofs.field.times_x.Tie as tie

@@ -1,7 +1,7 @@
 -- The highest digit of the high half.
 use native.Mathlib.Omega.{arith}
 use borrow.Author.Needs.{needs}
-use Rattle.blocks.specs.Block.{value}
+use Rattle.blocks.specs.Inner.{value}
 use Rattle.blocks.proofs.Halves.{halves-top}
 use Rattle.blocks.proofs.field.top.Statement.{statement}
 use Rattle.blocks.proofs.field.top.Tie as tie

@@ -1,16 +1,16 @@
 -- One test over the table.
 -- Assumes nothing.
 use mathlib.Core.Path.{refl}
-use Rattle.blocks.specs.Xor.{_⊕_}
+use Rattle.strings.specs.Xor.{_⊕_}
 use Rattle.blocks.specs.Aes.{bit, ofBits, invAffine}
 use Rattle.blocks.proofs.Inverse.{inverses}
-use Rattle.blocks.proofs.Substitution.{values, inv-box-table}
+use Rattle.blocks.proofs.Substitution.{values, inv-sbox-table}
 use Rattle.blocks.proofs.inv_sbox.table.Statement.{statement}
 use Rattle.blocks.proofs.inv_sbox.table.Tie as tie
 
 returns : tie.Need-returns
 unfolding _⊕_ bit ofBits invAffine inverses values
-returns c = inv-box-table refl
+returns c = inv-sbox-table refl
 
 pub table-spec : {M : Type 1} → statement M
 table-spec = tie.close (tie.spec returns)

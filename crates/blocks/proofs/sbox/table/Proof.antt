@@ -1,16 +1,16 @@
 -- One test over the table.
 -- Assumes nothing.
 use mathlib.Core.Path.{refl}
-use Rattle.blocks.specs.Xor.{_⊕_}
+use Rattle.strings.specs.Xor.{_⊕_}
 use Rattle.blocks.specs.Aes.{bit, ofBits, affine}
 use Rattle.blocks.proofs.Inverse.{inverses}
-use Rattle.blocks.proofs.Substitution.{values, box-table}
+use Rattle.blocks.proofs.Substitution.{values, sbox-table}
 use Rattle.blocks.proofs.sbox.table.Statement.{statement}
 use Rattle.blocks.proofs.sbox.table.Tie as tie
 
 returns : tie.Need-returns
 unfolding _⊕_ bit ofBits affine inverses values
-returns c = box-table refl
+returns c = sbox-table refl
 
 pub table-spec : {M : Type 1} → statement M
 table-spec = tie.close (tie.spec returns)

@@ -5,9 +5,9 @@ use mathlib.Core.Path.{refl}
 use native.Mathlib.Omega.{arith}
 use denote.Ref.{now}
 use lib.ListN.{getD}
-use Rattle.blocks.specs.Xor.{_⊕_}
+use Rattle.strings.specs.Xor.{_⊕_}
 use Rattle.blocks.specs.Aes.{at, state, byteOf, addRoundKey, roundKey}
-use Rattle.blocks.proofs.Filled.{Filled, none-filled, one-filled, all-filled}
+use Rattle.strings.proofs.Filled.{Filled, none-filled, one-filled, all-filled}
 use borrow.Author.Needs.{needs}
 use Rattle.blocks.proofs.state.add_round_key.Statement.{statement}
 use Rattle.blocks.proofs.state.add_round_key.Tie as tie

@@ -3,7 +3,7 @@
 use Prim.Native.Nat.{ℕ, zero, suc, _-_, _*_, _/_, _%_, _^_, _<_}
 use mathlib.Core.Path.{_≡_, refl}
 use native.Mathlib.Omega.{arith}
-use Rattle.blocks.specs.Bytes.{bytes}
+use Rattle.strings.specs.Bytes.{bytes}
 use Rattle.blocks.specs.Aes.{byteOf}
 use borrow.Author.Needs.{needs}
 use Rattle.blocks.proofs.state.byte.Statement.{statement}

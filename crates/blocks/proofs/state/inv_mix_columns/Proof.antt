@@ -3,7 +3,7 @@
 use Prim.Native.Nat.{_+_, _*_}
 use mir.Syntax.{w8}
 use Rattle.blocks.specs.Aes.{at}
-use Rattle.blocks.proofs.Arrays.{elements}
+use Rattle.strings.proofs.Arrays.{elements}
 use Rattle.blocks.proofs.Rounds.{three-mixings}
 use borrow.Author.Needs.{needs}
 use Rattle.blocks.proofs.state.inv_mix_columns.Statement.{statement}

@@ -3,7 +3,7 @@
 use mathlib.Core.Path.{ap, _∙_}
 use native.Mathlib.Omega.{arith}
 use denote.Ref.{now}
-use Rattle.blocks.specs.Aes.{invBox, invSubBytes, invMixColumns, addRoundKey, roundKey}
+use Rattle.blocks.specs.Aes.{invSBox, invSubBytes, invMixColumns, addRoundKey, roundKey}
 use borrow.Author.Needs.{needs}
 use Rattle.blocks.proofs.state.inv_round.Statement.{statement}
 use Rattle.blocks.proofs.state.inv_round.Tie as tie
@@ -25,7 +25,7 @@ unfolding invSubBytes
 returns c =
     let a = c .before .before .before .before .before .args in
     let x = c .inv-mix-columns .ensures ∙ ap invMixColumns (c .before .before .add-round-key .ensures ∙ ap (addRoundKey (roundKey (now (a .words)) (a .n)))
-    (c .before .before .before .sub-bytes .ensures invBox (c .before .before .before .before .before .pre .0) ∙ ap invSubBytes (c .before .before .before .before .inv-shift-rows .ensures))) in
+    (c .before .before .before .sub-bytes .ensures invSBox (c .before .before .before .before .before .pre .0) ∙ ap invSubBytes (c .before .before .before .before .inv-shift-rows .ensures))) in
     (λ h. x, λ z. absurd (omega arith))
 
 returns-2 : tie.Need-returns-2
@@ -33,7 +33,7 @@ unfolding invSubBytes
 returns-2 c =
     let a = c .before .before .before .before .args in
     let x = c .before .add-round-key .ensures ∙ ap (addRoundKey (roundKey (now (a .words)) (a .n)))
-    (c .before .before .sub-bytes .ensures invBox (c .before .before .before .before .pre .0) ∙ ap invSubBytes (c .before .before .before .inv-shift-rows .ensures)) in
+    (c .before .before .sub-bytes .ensures invSBox (c .before .before .before .before .pre .0) ∙ ap invSubBytes (c .before .before .before .inv-shift-rows .ensures)) in
     (λ h. absurd (omega arith), λ z. x)
 
 pub inv-round-spec : {M : Type 1} → statement M

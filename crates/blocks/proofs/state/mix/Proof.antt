@@ -3,9 +3,9 @@
 use Prim.Native.Nat.{ℕ, zero, suc, _*_, _/_, _%_, _^_, _<_}
 use mathlib.Core.Path.{_≡_, sym}
 use native.Mathlib.Omega.{arith}
-use Rattle.blocks.specs.Xor.{_⊕_}
+use Rattle.strings.specs.Xor.{_⊕_}
 use Rattle.blocks.specs.Field.{times01, timesX}
-use Rattle.blocks.proofs.Xor.{xor-comm, xor-below}
+use Rattle.strings.proofs.Xor.{xor-comm, xor-below}
 use Rattle.blocks.proofs.Columns.{mixed-by-x}
 use Rattle.blocks.proofs.state.mix.Statement.{statement}
 use Rattle.blocks.proofs.state.mix.Tie as tie

@@ -4,9 +4,10 @@ use Prim.Native.Nat.{ℕ, _-_}
 use mathlib.Core.Path.{_≡_, refl, _∙_}
 use mathlib.Core.List.{List}
 use lib.ListN.{getD}
-use Rattle.blocks.specs.Aes.{at, state, mixed, nextRows, mixColumns}
-use Rattle.blocks.proofs.Table.{table}
-use Rattle.blocks.proofs.Filled.{Filled, none-filled, one-filled, all-filled}
+use Rattle.blocks.specs.Aes.{at, state, mixed, mixColumns}
+use Rattle.blocks.specs.Inner.{nextRows}
+use Rattle.strings.proofs.Table.{table}
+use Rattle.strings.proofs.Filled.{Filled, none-filled, one-filled, all-filled}
 use borrow.Author.Needs.{needs}
 use Rattle.blocks.proofs.state.mix_columns.Statement.{statement}
 use Rattle.blocks.proofs.state.mix_columns.Tie as tie

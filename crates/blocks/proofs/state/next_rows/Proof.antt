@@ -4,8 +4,9 @@ use Prim.Native.Nat.{_+_, _-_, _*_, _/_, _%_}
 use mathlib.Core.Path.{refl}
 use native.Mathlib.Omega.{arith}
 use lib.ListN.{getD}
-use Rattle.blocks.specs.Aes.{at, state, nextRows}
-use Rattle.blocks.proofs.Filled.{Filled, none-filled, one-filled, all-filled}
+use Rattle.blocks.specs.Aes.{at, state}
+use Rattle.blocks.specs.Inner.{nextRows}
+use Rattle.strings.proofs.Filled.{Filled, none-filled, one-filled, all-filled}
 use borrow.Author.Needs.{needs}
 use Rattle.blocks.proofs.state.next_rows.Statement.{statement}
 use Rattle.blocks.proofs.state.next_rows.Tie as tie

@@ -3,7 +3,7 @@
 use mathlib.Core.Path.{ap, _∙_}
 use native.Mathlib.Omega.{arith}
 use denote.Ref.{now}
-use Rattle.blocks.specs.Aes.{box, subBytes, shiftRows, mixColumns, addRoundKey, roundKey}
+use Rattle.blocks.specs.Aes.{sBox, subBytes, shiftRows, mixColumns, addRoundKey, roundKey}
 use borrow.Author.Needs.{needs}
 use Rattle.blocks.proofs.state.round.Statement.{statement}
 use Rattle.blocks.proofs.state.round.Tie as tie
@@ -25,7 +25,7 @@ unfolding subBytes
 returns c =
     let a = c .before .before .before .before .before .args in
     let x = c .add-round-key .ensures ∙ ap (addRoundKey (roundKey (now (a .words)) (a .n)))
-    (c .before .mix-columns .ensures ∙ ap mixColumns (c .before .before .before .shift-rows .ensures ∙ ap shiftRows (c .before .before .before .before .sub-bytes .ensures box (c .before .before .before .before .before .pre .0)))) in
+    (c .before .mix-columns .ensures ∙ ap mixColumns (c .before .before .before .shift-rows .ensures ∙ ap shiftRows (c .before .before .before .before .sub-bytes .ensures sBox (c .before .before .before .before .before .pre .0)))) in
     (λ h. x, λ z. absurd (omega arith))
 
 add-round-key-requires-2 : tie.Need-add-round-key-requires-2
@@ -36,7 +36,7 @@ unfolding subBytes
 returns-2 c =
     let a = c .before .before .before .before .args in
     let x = c .add-round-key2 .ensures ∙ ap (addRoundKey (roundKey (now (a .words)) (a .n)))
-    (c .before .before .shift-rows .ensures ∙ ap shiftRows (c .before .before .before .sub-bytes .ensures box (c .before .before .before .before .pre .0))) in
+    (c .before .before .shift-rows .ensures ∙ ap shiftRows (c .before .before .before .sub-bytes .ensures sBox (c .before .before .before .before .pre .0))) in
     (λ h. absurd (omega arith), λ z. x)
 
 pub round-spec : {M : Type 1} → statement M

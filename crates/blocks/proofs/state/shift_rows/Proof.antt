@@ -5,7 +5,7 @@ use mathlib.Core.Path.{refl}
 use native.Mathlib.Omega.{arith}
 use lib.ListN.{getD}
 use Rattle.blocks.specs.Aes.{at, state, shiftRows}
-use Rattle.blocks.proofs.Filled.{Filled, none-filled, one-filled, all-filled}
+use Rattle.strings.proofs.Filled.{Filled, none-filled, one-filled, all-filled}
 use borrow.Author.Needs.{needs}
 use Rattle.blocks.proofs.state.shift_rows.Statement.{statement}
 use Rattle.blocks.proofs.state.shift_rows.Tie as tie

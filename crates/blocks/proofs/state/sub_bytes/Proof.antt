@@ -7,8 +7,8 @@ use mir.Syntax.{w8}
 use denote.Ref.{now}
 use lib.ListN.{getD}
 use Rattle.blocks.specs.Aes.{at, state}
-use Rattle.blocks.proofs.Filled.{Filled, none-filled, one-filled, refilled, all-filled}
-use Rattle.blocks.proofs.Arrays.{elements}
+use Rattle.strings.proofs.Filled.{Filled, none-filled, one-filled, refilled, all-filled}
+use Rattle.strings.proofs.Arrays.{elements}
 use borrow.Author.Needs.{needs}
 use Rattle.blocks.proofs.state.sub_bytes.Statement.{statement}
 use Rattle.blocks.proofs.state.sub_bytes.Tie as tie

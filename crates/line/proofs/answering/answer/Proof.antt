@@ -2,7 +2,7 @@
 -- Assumes nothing.
 use borrow.Author.Needs.{needs}
 use denote.Ref.{now}
-use Rattle.blocks.proofs.Place.{part-behind}
+use Rattle.strings.proofs.Place.{part-behind}
 use Rattle.line.specs.Line.{replyTo}
 use Rattle.line.proofs.Requests.{line-short, line-other, line-fields, answer-long, answer-fields}
 use Rattle.line.proofs.answering.answer.Statement.{statement}

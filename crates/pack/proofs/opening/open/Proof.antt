@@ -5,7 +5,7 @@ use mathlib.Core.Bool.{true, false}
 use borrow.Author.Needs.{needs}
 use borrow.Author.Tests.{lt-ltb, eq-eqb, ne-eqb}
 use denote.Ref.{now}
-use Rattle.blocks.specs.Bytes.{Bytes}
+use Rattle.strings.specs.Bytes.{Bytes}
 use Rattle.hch.specs.Hch.{enciphered, deciphered}
 use Rattle.layout.proofs.Check.{read-passed, read-failed}
 use Rattle.pack.specs.Opening.{decipheredBlock, answerOf}

@@ -1,7 +1,7 @@
 -- The 16 bytes of the block, through the cipher, as a block again.
 -- Assumes nothing.
 use mathlib.Core.Path.{ap, _∙_}
-use Rattle.blocks.specs.Bytes.{number}
+use Rattle.strings.specs.Bytes.{number}
 use Rattle.blocks.specs.Aes.{cipher, Nr, roundKey, encipher}
 use borrow.Author.Needs.{needs}
 use Rattle.blocks.proofs.aes.ExpandedKey.encipher.Statement.{statement}

@@ -5,10 +5,10 @@ use mathlib.Core.Path.{refl, _∙_}
 use native.Mathlib.Omega.{arith}
 use denote.Ref.{now}
 use lib.ListN.{getD}
-use Rattle.blocks.specs.Xor.{_⊕_}
+use Rattle.strings.specs.Xor.{_⊕_}
 use Rattle.blocks.specs.Field.{times01, timesX, productN, product}
 use Rattle.blocks.specs.Aes.{keyExpansion}
-use Rattle.blocks.proofs.Filled.{Filled, none-filled, one-filled, all-filled-with}
+use Rattle.strings.proofs.Filled.{Filled, none-filled, one-filled, all-filled-with}
 use Rattle.blocks.proofs.Words.{doubles, constants, length-keyWords, word-at}
 use borrow.Author.Needs.{needs}
 use Rattle.blocks.proofs.aes.ExpandedKey.new.Statement.{statement}

@@ -1,7 +1,7 @@
 -- A block of all of its bytes.
 -- Assumes nothing.
 use mathlib.Core.Path.{_∙_}
-use Rattle.blocks.proofs.Bytes.{block-whole}
+use Rattle.blocks.proofs.Blocks.{block-whole}
 use borrow.Author.Needs.{needs}
 use Rattle.blocks.proofs.block.Block.from_bytes.Statement.{statement}
 use Rattle.blocks.proofs.block.Block.from_bytes.Tie as tie

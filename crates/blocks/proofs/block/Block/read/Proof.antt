@@ -3,14 +3,15 @@
 use borrow.Author.Needs.{needs}
 use denote.Ref.{now}
 use lib.ListN.{drop-of-length-le}
-use Rattle.blocks.specs.Bytes.{number, pad, block}
-use Rattle.blocks.specs.Block.{value}
-use Rattle.blocks.proofs.Place.{join-halves}
+use Rattle.strings.specs.Bytes.{number}
+use Rattle.blocks.specs.Blocks.{pad, firstBlock}
+use Rattle.blocks.specs.Inner.{value}
+use Rattle.blocks.proofs.Blocks.{join-halves}
 use Rattle.blocks.proofs.block.Block.read.Statement.{statement}
 use Rattle.blocks.proofs.block.Block.read.Tie as tie
 
 returns : tie.Need-returns
-unfolding value block pad number
+unfolding value firstBlock pad number
 returns c = rw (drop-of-length-le (now (c .before .before .args .s)) (c .if1 .taken))
 
 word-requires : tie.Need-word-requires

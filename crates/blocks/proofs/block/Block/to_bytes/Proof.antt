@@ -1,9 +1,9 @@
 -- All 16 bytes are overwritten.
 -- Assumes nothing.
 use mathlib.Core.Path.{_∙_}
-use Rattle.blocks.specs.Block.{value}
-use Rattle.blocks.proofs.Bytes.{length-bytes}
-use Rattle.blocks.proofs.Place.{overwrite-whole}
+use Rattle.blocks.specs.Inner.{value}
+use Rattle.strings.proofs.Bytes.{length-bytes}
+use Rattle.strings.proofs.Place.{overwrite-whole}
 use borrow.Author.Needs.{needs}
 use Rattle.blocks.proofs.block.Block.to_bytes.Statement.{statement}
 use Rattle.blocks.proofs.block.Block.to_bytes.Tie as tie

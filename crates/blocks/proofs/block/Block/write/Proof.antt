@@ -5,10 +5,10 @@ use Prim.Native.Nat.{_^_, _<_}
 use native.Mathlib.Omega.{arith}
 use mathlib.Core.Path.{sym}
 use denote.Ref.{now}
-use Rattle.blocks.specs.Bytes.{bytes}
-use Rattle.blocks.specs.Block.{value}
-use Rattle.blocks.proofs.Bytes.{length-bytes}
-use Rattle.blocks.proofs.Place.{overwrite-past, overwrite-append, bytes-join}
+use Rattle.strings.specs.Bytes.{bytes}
+use Rattle.blocks.specs.Inner.{value}
+use Rattle.strings.proofs.Bytes.{length-bytes}
+use Rattle.strings.proofs.Place.{overwrite-past, overwrite-append, bytes-join}
 use Rattle.blocks.proofs.block.Block.write.Statement.{statement}
 use Rattle.blocks.proofs.block.Block.write.Tie as tie
 

@@ -1,9 +1,9 @@
 -- The halves are summed apart.
 use mathlib.Core.Path.{sym}
 use borrow.Author.Needs.{needs}
-use Rattle.blocks.specs.Xor.{_⊕_}
-use Rattle.blocks.specs.Block.{value}
-use Rattle.blocks.proofs.Xor.{xor-parts}
+use Rattle.strings.specs.Xor.{_⊕_}
+use Rattle.blocks.specs.Inner.{value}
+use Rattle.strings.proofs.Xor.{xor-parts}
 use Rattle.blocks.proofs.block.Block.xor.Statement.{statement}
 use Rattle.blocks.proofs.block.Block.xor.Tie as tie
 

@@ -8,7 +8,7 @@ use native.Mathlib.Nat.{le-of-suc-le-suc, not-suc-le-zero, eq-or-lt-of-le}
 use native.Mathlib.Omega.{arith}
 use lib.ListN.{length, getD, set, length-set}
 use lib.Seq.{getD-set-same, getD-set-other, ext-getD}
-use Rattle.blocks.proofs.Table.{table, is-table}
+use Rattle.strings.proofs.Table.{table, is-table}
 
 -- The first i of n entries are g's.
 pub record Filled (n i : ℕ) (g : ℕ → ℕ) (s : List ℕ) : Type 0 where

@@ -9,7 +9,7 @@ use denote.Shadow.{shadow}
 use denote.Plain.{UInt}
 use denote.Laws.{Is}
 use denote.Array.{Array, each}
-use Rattle.blocks.specs.Bytes.{Below}
+use Rattle.strings.specs.Bytes.{Below}
 
 each-below : (w : Width) (xs : List ℕ) (us : List Val) → shadow (each ℕ (UInt w .own) xs us) → Below (2 ^ bits w) xs
 each-below w [] us p i = pow-pos (bits w)

@@ -8,9 +8,10 @@ use native.Mathlib.Numerals.{add-one}
 use native.Mathlib.Omega.{arith}
 use lib.Arith.{digits-div}
 use lib.ListN.{length, getD, take, drop, set, take-append-drop, length-append, length-drop, length-set, drop-of-length-le}
-use lib.Seq.{getD-drop, drop-drop, drop-at, take-nil, take-all, drop-nil, drop-length, set-out, set-comm}
-use Rattle.blocks.specs.Bytes.{Bytes, number, bytes, block, overwrite}
-use Rattle.blocks.proofs.Bytes.{bytes-append, bytes-above, number-below, number-append, padded, length-padded, padded-below, padded-suc, padded-add, block-padded, below-drop}
+use lib.Seq.{getD-drop, drop-at, take-nil, take-all, drop-nil, drop-length, set-out, set-comm}
+use Rattle.strings.specs.Bytes.{Bytes, number, bytes}
+use Rattle.strings.specs.Inner.{overwrite}
+use Rattle.strings.proofs.Bytes.{bytes-append, bytes-above, number-below, number-append, padded, length-padded, padded-below, padded-suc, below-drop}
 
 -- Reading one byte more: what has been read is shifted up.
 pub number-next : (n at : ℕ) (s : List ℕ)
@@ -23,18 +24,6 @@ number-fits n m at s h l =
     lt-of-lt-of-le
     (rw length-padded at (number-below (padded n (drop at s)) (padded-below n (drop at s) (below-drop at s h))))
     (pow-le-pow-right (omega arith) l)
-
--- A block is its two halves, and each is the high half of the block at its place.
-module _ (at : ℕ) (s : List ℕ) where
-  halves : block (drop at s) ≡ number (padded 8 (drop at s)) * 2 ^ 64 + number (padded 8 (drop (at + 8) s))
-  halves = rw (block-padded, padded-add 8 8 (drop at s), number-append, length-padded, drop-drop)
-
-  pub high-half : Bytes s → block (drop at s) / 2 ^ 64 ≡ number (padded 8 (drop at s))
-  high-half h = rw halves (digits-div (number (padded 8 (drop at s))) (number-fits 8 8 (at + 8) s h (omega arith)))
-
-pub join-halves : (at : ℕ) (s : List ℕ) → Bytes s
-    → block (drop at s) / 2 ^ 64 * 2 ^ 64 + block (drop (at + 8) s) / 2 ^ 64 ≡ block (drop at s)
-join-halves at s h = rw (high-half at s h, high-half (at + 8) s h, halves at s)
 
 -- Writing one byte more, at the place before: past the end `set` does nothing.
 pub overwrite-nil : (i : ℕ) (s : List ℕ) → overwrite i [] s ≡ s

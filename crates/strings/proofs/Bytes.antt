@@ -1,18 +1,18 @@
--- Laws of byte strings: numbers and bytes undo each other, exclusive or goes byte by byte, and blocks are cut by 16.
+-- Laws of byte strings: numbers and bytes undo each other, and exclusive or goes byte by byte.
 -- Assumes nothing.
 use Prim.Native.Nat.{ℕ, zero, suc, _+_, _-_, _*_, _/_, _%_, _^_, _≤_, _<_}
 use mathlib.Core.Path.{_≡_, refl, ap}
-use mathlib.Core.List.{List, [], _∷_, _++_, append-nil}
+use mathlib.Core.List.{List, [], _∷_, _++_}
 use native.Mathlib.Nat.{zero-add, suc-add, add-assoc, add-mul, mul-assoc, mul-comm, mul-zero, mul-suc, pow-zero, pow-suc, pow-succ', one-le-pow, sub-zero, zero-sub, suc-sub-suc, le-refl, le-of-suc-le-suc, mod-eq-of-lt, div-div-eq-div-mul, mul-add-div-right, mul-add-mod-self-right}
 use native.Mathlib.Numerals.{one-add}
 use native.Mathlib.Omega.{arith}
 use lib.Arith.{digits-lt, digits-div, mod-mul}
-use lib.Pow.{pow-add, pow-pos}
-use lib.ListN.{length, getD, take, drop, replicate, length-append, length-drop, List·getD-eq-default}
-use lib.Seq.{getD-drop, drop-drop, take-nil, take-all, length-take-le}
-use Rattle.blocks.specs.Xor.{_⊕_, xorBytes}
-use Rattle.blocks.specs.Bytes.{Below, Bytes, number, bytes, pad, block, cut, blocks}
-use Rattle.blocks.proofs.Xor.{xor-cancel-right, xor-shr, xor-mod}
+use lib.Pow.{pow-add}
+use lib.ListN.{length, getD, take, drop, replicate, length-append, List·getD-eq-default}
+use lib.Seq.{getD-drop, drop-drop, take-nil, take-all}
+use Rattle.strings.specs.Xor.{_⊕_, xorBytes}
+use Rattle.strings.specs.Bytes.{Below, Bytes, number, bytes}
+use Rattle.strings.proofs.Xor.{xor-cancel-right, xor-shr, xor-mod}
 
 -- Strings whose entries are below n. Past the end an entry is 0, so n is never 0.
 pub below-pos : {n : ℕ} (s : List ℕ) → Below n s → 0 < n
@@ -124,7 +124,7 @@ take-append n [] t = rw (take-nil n, sub-zero)
 take-append zero (a ∷ s) t = rw zero-sub
 take-append (suc n) (a ∷ s) t = rw (take-append n s t, suc-sub-suc)
 
--- The first n entries, 0 past the end: what a block is made of.
+-- The first n entries, 0 past the end.
 unfoldable pub padded : ℕ → List ℕ → List ℕ
 padded zero s = []
 padded (suc n) s = getD s 0 0 ∷ padded n (drop 1 s)
@@ -161,52 +161,8 @@ unfolding padded
 padded-nil zero = refl
 padded-nil (suc n) = rw (padded-nil n)
 
-take-zeros : (n : ℕ) (s : List ℕ) → take n s ++ replicate (n - length (take n s)) 0 ≡ padded n s
+pub take-zeros : (n : ℕ) (s : List ℕ) → take n s ++ replicate (n - length (take n s)) 0 ≡ padded n s
 unfolding padded
 take-zeros zero s = refl
 take-zeros (suc n) [] = rw sub-zero (padded-nil (suc n))
 take-zeros (suc n) (a ∷ s) = rw (suc-sub-suc, take-zeros n s)
-
-pub block-padded : (s : List ℕ) → block s ≡ number (padded 16 s)
-unfolding block pad
-block-padded s = ap number (take-zeros 16 s)
-
-pub block-first : (s : List ℕ) → 16 ≤ length s → block s ≡ number (take 16 s)
-unfolding block pad
-block-first s h = ap number (rw (length-take-le 16 s h, append-nil))
-
-pub block-whole : (s : List ℕ) → length s ≡ 16 → block s ≡ number s
-block-whole s h = rw (block-first s (omega (arith, h)), take-all 16 s (omega (arith, h)))
-
-pub block-below : (s : List ℕ) → Bytes s → block s < 2 ^ 128
-block-below s h = rw (block-padded s) (rw length-padded at (number-below (padded 16 s) (padded-below 16 s h)))
-
--- A string's blocks.
-pub blocks-nil : blocks [] ≡ []
-unfolding blocks cut
-blocks-nil = refl
-
-pub blocks-cons : (s : List ℕ) → 0 < length s → blocks s ≡ block s ∷ blocks (drop 16 s)
-unfolding blocks cut
-blocks-cons s h =
-    let e : (length s + 15) / 16 ≡ suc ((length s - 16 + 15) / 16) = omega arith in
-    rw (e, length-drop)
-
-length-cut : (m : ℕ) (s : List ℕ) → length (cut m s) ≡ m
-unfolding cut
-length-cut zero s = refl
-length-cut (suc m) s = ap suc (length-cut m (drop 16 s))
-
-pub length-blocks : (s : List ℕ) → length (blocks s) ≡ (length s + 15) / 16
-unfolding blocks
-length-blocks s = length-cut ((length s + 15) / 16) s
-
-cut-below : (m : ℕ) (s : List ℕ) → Bytes s → Below (2 ^ 128) (cut m s)
-unfolding cut
-cut-below zero s h i = pow-pos 128
-cut-below (suc m) s h zero = block-below s h
-cut-below (suc m) s h (suc i) = cut-below m (drop 16 s) (below-drop 16 s h) i
-
-pub blocks-below : (s : List ℕ) → Bytes s → Below (2 ^ 128) (blocks s)
-unfolding blocks
-blocks-below s h = cut-below ((length s + 15) / 16) s h

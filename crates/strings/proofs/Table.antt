@@ -7,7 +7,7 @@ use native.Mathlib.Nat.{add-zero, zero-add, add-suc, suc-add, le-of-suc-le-suc, 
 use native.Mathlib.Omega.{arith}
 use lib.ListN.{length, getD}
 use lib.Seq.{ext-getD}
-use Rattle.blocks.specs.Bytes.{Below}
+use Rattle.strings.specs.Bytes.{Below}
 
 -- The values of f at the n places from i on.
 abbrev pub table : (ℕ → ℕ) → ℕ → ℕ → List ℕ

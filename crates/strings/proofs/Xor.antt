@@ -6,7 +6,7 @@ use native.Mathlib.Nat.{mod-lt, zero-lt-suc}
 use native.Mathlib.Omega.{arith}
 use lib.Arith.{bin-ind}
 use lib.Bits as bits
-use Rattle.blocks.specs.Xor.{_⊕_}
+use Rattle.strings.specs.Xor.{_⊕_}
 
 pub xor-zero-left : (a : ℕ) → 0 ⊕ a ≡ a
 unfolding _⊕_

@@ -2,18 +2,16 @@
 -- Assumes nothing.
 use Prim.Native.Nat.{ℕ, zero, suc, _^_, _<_}
 use mathlib.Core.Path.{_≡_, refl, sym, ap, _∙_}
-use mathlib.Core.Bool.{Bool, true, false, _&&_, false≢true, and-assoc}
-use mathlib.Core.List.{List, [], _∷_, _++_}
+use mathlib.Core.Bool.{Bool, true, false}
+use mathlib.Core.List.{List}
 use mathlib.Core.Logic.{⊎-elim}
 use native.Mathlib.Nat.{eq-or-lt-of-le, le-of-suc-le-suc, not-suc-le-zero, mod-eq-of-lt}
 use native.Mathlib.Omega.{arith}
-use borrow.Author.Tests.{eqb-true, eq-eqb}
-use lib.Dec.{eqb}
-use lib.ListN.{length, take, drop}
-use Rattle.blocks.specs.Bytes.{OfLength, number, bytes, equal}
-use Rattle.blocks.specs.One.{ExactlyOne, tally, count, OneString, OnePreimage}
-use Rattle.blocks.specs.Permutation.{Cipher}
-use Rattle.blocks.proofs.Bytes.{length-bytes, bytes-below, number-below, number-bytes, bytes-number}
+use Rattle.strings.specs.Bytes.{OfLength, number, bytes}
+use Rattle.strings.specs.One.{ExactlyOne, tally, count, OneString, OnePreimage}
+use Rattle.strings.specs.Cipher.{Cipher}
+use Rattle.strings.proofs.Bytes.{length-bytes, bytes-below, number-below, number-bytes, bytes-number}
+use Rattle.strings.proofs.Equal.{equal-refl, equal-true}
 
 tally-none : (t : Bool) → (t ≡ true → ⊥) → tally t ≡ 0
 unfolding tally
@@ -57,33 +55,6 @@ count-strings test n s one =
 
 pub one-string : {n : ℕ} {test : List ℕ → Bool} {s : List ℕ} → ExactlyOne (OfLength n) test s → OneString n test s
 one-string {n} {test} {s} one = record { one = one; counted = count-strings test n s one }
-
--- Equal strings pass the test, and no others.
-pub equal-refl : (s : List ℕ) → equal s s ≡ true
-unfolding equal
-equal-refl [] = refl
-equal-refl (a ∷ s) = rw (eq-eqb a a refl, equal-refl s)
-
-pub both : (a b : Bool) → (a && b) ≡ true → (a ≡ true) × (b ≡ true)
-both true b e = (refl, e)
-both false b e = absurd (false≢true e)
-
-pub equal-true : (s t : List ℕ) → equal s t ≡ true → s ≡ t
-unfolding equal
-equal-true [] [] e = refl
-equal-true [] (b ∷ t) e = absurd (false≢true e)
-equal-true (a ∷ s) [] e = absurd (false≢true e)
-equal-true (a ∷ s) (b ∷ t) e =
-    let parts = both (eqb a b) (equal s t) e in
-    rw (eqb-true a b (parts .0), equal-true s t (parts .1))
-
--- A string is two in a row where its front is the first and what stands behind it the second.
-pub equal-append : (s t u : List ℕ) → equal s (t ++ u) ≡ (equal (take (length t) s) t && equal (drop (length t) s) u)
-unfolding equal
-equal-append s [] u = refl
-equal-append [] (b ∷ t) u = refl
-equal-append (a ∷ s) (b ∷ t) u =
-    rw (equal-append s t u) (sym (and-assoc (eqb a b) (equal (take (length t) s) t) (equal (drop (length t) s) u)))
 
 -- A cipher of n bytes sends exactly one string of n bytes to each.
 pub one-preimage : {n : ℕ} {f g : List ℕ → List ℕ} → Cipher n f g → (s : List ℕ) → OfLength n s → OnePreimage n f s (g s)

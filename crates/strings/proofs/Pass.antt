@@ -8,12 +8,12 @@ use native.Mathlib.Nat.{mod-eq-of-lt}
 use native.Mathlib.Omega.{arith}
 use lib.ListN.{take, drop, length-append, length-drop, take-append-drop}
 use lib.Seq.{take-at, drop-at, length-take-le}
-use Rattle.blocks.specs.Xor.{_⊕_}
-use Rattle.blocks.specs.Bytes.{OfLength, number, bytes}
-use Rattle.blocks.specs.Permutation.{Permutation, Cipher}
-use Rattle.blocks.proofs.Xor.{xor-comm, xor-below, xor-cancel-right}
-use Rattle.blocks.proofs.Bytes.{below-append, below-take, below-drop, length-bytes, bytes-below, number-below, number-bytes, bytes-number, pow-mul}
-use Rattle.blocks.proofs.Permutations.{backwards}
+use Rattle.strings.specs.Xor.{_⊕_}
+use Rattle.strings.specs.Bytes.{OfLength, number, bytes}
+use Rattle.strings.specs.Cipher.{Permutation, Cipher}
+use Rattle.strings.proofs.Xor.{xor-comm, xor-below, xor-cancel-right}
+use Rattle.strings.proofs.Bytes.{below-append, below-take, below-drop, length-bytes, bytes-below, number-below, number-bytes, bytes-number, pow-mul}
+use Rattle.strings.proofs.Permutations.{backwards}
 
 module _ (w : ℕ) (F : ℕ → ℕ) (g g′ : List ℕ → ℕ) (mask : ℕ → List ℕ → List ℕ) where
   unfoldable pub pass : List ℕ → List ℕ

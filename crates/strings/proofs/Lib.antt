@@ -1,0 +1,11 @@
+pub mod Xor
+pub mod Bytes
+pub mod Equal
+pub mod Place
+pub mod Table
+pub mod Filled
+pub mod Arrays
+pub mod Permutations
+pub mod One
+pub mod Pass
+pub mod Theorems

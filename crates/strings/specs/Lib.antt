@@ -1,0 +1,7 @@
+pub mod Xor
+pub mod Bytes
+pub mod Cipher
+pub mod One
+pub mod Call
+pub mod Inner
+pub mod Theorems

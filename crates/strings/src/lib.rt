@@ -1,0 +1,1 @@
+// Byte strings, and what the calls of all crates have in common.
