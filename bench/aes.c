@@ -1,4 +1,4 @@
-/* AES-128 in plain C, to measure against: a table for the box, MixColumns byte by byte, no intrinsics. */
+/* AES-128 in plain C, to measure against: a table for the S-box, MixColumns byte by byte, no intrinsics. */
 #include "aes.h"
 
 static const uint8_t sbox[256] = {

@@ -26,7 +26,7 @@
  *     other.
  *   - No call can tell whether a pointer, a length or an overlap is wrong in this sense: nothing is promised then.
  *   - Nothing is kept between calls, no memory is allocated, and no system call is made. As compiled today, a call
- *     takes some 2 KiB of stack. Any number of threads may call at once, as long as none is lent bytes that another
+ *     takes some 2.5 KiB of stack. Any number of threads may call at once, as long as none is lent bytes that another
  *     one's call may write.
  *   - The bytes may stand at any address: nothing has to be aligned.
  *
@@ -56,9 +56,9 @@
 #include <stddef.h>
 #include <stdint.h>
 
-/* The version of the library: 0.6. */
+/* The version of the library: 0.7. */
 #define BOARDS_VERSION_MAJOR 0
-#define BOARDS_VERSION_MINOR 6
+#define BOARDS_VERSION_MINOR 7
 
 /* The limits, in bytes but for the last. */
 #define BOARDS_KEY_SIZE 16

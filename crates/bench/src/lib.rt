@@ -12,6 +12,6 @@ use blocks::block::Block;
 pub extern "C" fn bench_aes_encipher(words: &[u32; 44], data: &mut [u8])
     ensures { λ _. ⌜ now («data» .exit) ≡ overwrite 0 (bytes 16 (encipher (Nr 4) (now (words .entry)) (firstBlock (now («data» .entry))))) (now («data» .entry)) ⌝ }
 {
-    let key = ExpandedKey { words: *words };
-    key.encipher(Block::read(data, 0)).write(data, 0);
+    let expanded = ExpandedKey { words: *words };
+    expanded.encipher(Block::read(data, 0)).write(data, 0);
 }

@@ -1,15 +1,17 @@
 -- Laws of blocks: a string is cut by 16, and a block that is read is its two halves.
 -- Assumes nothing.
-use Prim.Native.Nat.{ℕ, zero, suc, _+_, _*_, _/_, _-_, _^_, _≤_, _<_}
+use Prim.Native.Nat.{ℕ, zero, suc, _+_, _*_, _/_, _%_, _-_, _^_, _≤_, _<_}
 use mathlib.Core.Path.{_≡_, refl, ap}
 use mathlib.Core.List.{List, [], _∷_, append-nil}
+use native.Mathlib.Nat.{mod-eq-of-lt}
 use native.Mathlib.Omega.{arith}
-use lib.Arith.{digits-div}
+use lib.Arith.{digits-mod}
 use lib.Pow.{pow-pos}
 use lib.ListN.{length, take, drop, length-drop}
 use lib.Seq.{drop-drop, take-all, length-take-le}
 use Rattle.strings.specs.Bytes.{Below, Bytes, number}
-use Rattle.strings.proofs.Bytes.{below-drop, number-below, number-append, padded, length-padded, padded-below, padded-add, take-zeros}
+use Rattle.strings.specs.Inner.{padded}
+use Rattle.strings.proofs.Bytes.{below-drop, number-below, number-append, length-padded, padded-below, padded-add, take-zeros}
 use Rattle.strings.proofs.Place.{number-fits}
 use Rattle.blocks.specs.Blocks.{pad, firstBlock, cut, blocks}
 
@@ -57,14 +59,12 @@ pub blocks-below : (s : List ℕ) → Bytes s → Below (2 ^ 128) (blocks s)
 unfolding blocks
 blocks-below s h = cut-below ((length s + 15) / 16) s h
 
--- A block is its two halves, and each is the high half of the block at its place.
-module _ (at : ℕ) (s : List ℕ) where
-  halves : firstBlock (drop at s) ≡ number (padded 8 (drop at s)) * 2 ^ 64 + number (padded 8 (drop (at + 8) s))
-  halves = rw (block-padded, padded-add 8 8 (drop at s), number-append, length-padded, drop-drop)
-
-  pub high-half : Bytes s → firstBlock (drop at s) / 2 ^ 64 ≡ number (padded 8 (drop at s))
-  high-half h = rw halves (digits-div (number (padded 8 (drop at s))) (number-fits 8 8 (at + 8) s h (omega arith)))
-
+-- A block is its two halves: the number of its first 8 bytes, and that of all 16 cut to 64 digits.
 pub join-halves : (at : ℕ) (s : List ℕ) → Bytes s
-    → firstBlock (drop at s) / 2 ^ 64 * 2 ^ 64 + firstBlock (drop (at + 8) s) / 2 ^ 64 ≡ firstBlock (drop at s)
-join-halves at s h = rw (high-half at s h, high-half (at + 8) s h, halves at s)
+    → number (padded 8 (drop at s)) % 2 ^ 64 * 2 ^ 64 + number (padded 16 (drop at s)) % 2 ^ 64 ≡ firstBlock (drop at s)
+join-halves at s h =
+    let t = drop at s in
+    let high = number (padded 8 t) in
+    let low = number (padded 8 (drop (at + 8) s)) in
+    let both : number (padded 16 t) ≡ high * 2 ^ 64 + low = rw (padded-add 8 8 t, number-append, length-padded, drop-drop) in
+    rw (block-padded, both, mod-eq-of-lt (number-fits 8 8 at s h (omega arith)), digits-mod high (number-fits 8 8 (at + 8) s h (omega arith)))

@@ -12,7 +12,8 @@ use Rattle.strings.specs.Inner.{overwrite}
 use Rattle.blocks.specs.Blocks.{firstBlock, cut, blocks, string}
 use Rattle.strings.specs.Cipher.{Cipher}
 use Rattle.blocks.specs.Counter.{masked, maskedBytes}
-use Rattle.strings.proofs.Bytes.{below-append, below-drop, below-take, length-bytes, bytes-below, bytes-number, bytes-xor, xorBytes-cancel, xorBytes-append, take-xorBytes, padded, length-padded, padded-below, padded-add, take-padded, take-append}
+use Rattle.strings.specs.Inner.{padded}
+use Rattle.strings.proofs.Bytes.{below-append, below-drop, below-take, length-bytes, bytes-below, bytes-number, bytes-xor, xorBytes-cancel, xorBytes-append, take-xorBytes, length-padded, padded-below, padded-add, take-padded, take-append}
 use Rattle.blocks.proofs.Blocks.{block-padded, blocks-cons, length-blocks}
 use Rattle.strings.proofs.Place.{take-overwrite, drop-overwrite}
 

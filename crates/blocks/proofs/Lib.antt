@@ -4,7 +4,7 @@ pub mod Counter
 pub mod Ring
 pub mod Horner
 pub mod Halves
-pub mod Steps
+pub mod Product
 pub mod Inverse
 pub mod Substitution
 pub mod Columns

@@ -99,17 +99,17 @@ module _ (boxes : Permutation Byte sBox invSBox) where
   unfolding subBytes invSubBytes
   sub-bytes = step (by-bytes boxes) (by-bytes (backwards boxes))
 
-  module _ (key : ℕ → List ℕ) (keys : (i : ℕ) → State (key i)) where
+  module _ (roundKeys : ℕ → List ℕ) (states : (i : ℕ) → State (roundKeys i)) where
     -- n rounds, and the next one up to its mixing
-    rounds-permutation : (n : ℕ) → Permutation State (λ s. shiftRows (subBytes (rounds key n s))) (invRounds key n)
+    rounds-permutation : (n : ℕ) → Permutation State (λ s. shiftRows (subBytes (rounds roundKeys n s))) (invRounds roundKeys n)
     unfolding rounds invRounds
-    rounds-permutation zero = then (add-round-key (key 0) (keys 0)) (then sub-bytes shift-rows)
+    rounds-permutation zero = then (add-round-key (roundKeys 0) (states 0)) (then sub-bytes shift-rows)
     rounds-permutation (suc n) =
-        then (rounds-permutation n) (then mix-columns (then (add-round-key (key (suc n)) (keys (suc n))) (then sub-bytes shift-rows)))
+        then (rounds-permutation n) (then mix-columns (then (add-round-key (roundKeys (suc n)) (states (suc n))) (then sub-bytes shift-rows)))
 
-    pub cipher-permutation : (Nr : ℕ) → Permutation State (cipher key Nr) (invCipher key Nr)
+    pub cipher-permutation : (Nr : ℕ) → Permutation State (cipher roundKeys Nr) (invCipher roundKeys Nr)
     unfolding cipher invCipher
-    cipher-permutation Nr = then (rounds-permutation (Nr - 1)) (add-round-key (key Nr) (keys Nr))
+    cipher-permutation Nr = then (rounds-permutation (Nr - 1)) (add-round-key (roundKeys Nr) (states Nr))
 
   pub block-permutation : (Nr : ℕ) (w : List ℕ) → Permutation IsBlock (encipher Nr w) (decipher Nr w)
   unfolding encipher decipher

@@ -4,21 +4,18 @@ use Prim.Native.Nat.{ℕ, zero, suc, _+_, _-_, _*_, _/_, _%_, _^_, _≤_, _<_}
 use mathlib.Core.Path.{_≡_, refl, sym, ap, _∙_}
 use mathlib.Core.List.{List, [], _∷_}
 use mathlib.Core.Logic.{_⊎_, inl, inr, ⊎-elim}
-use native.Mathlib.Nat.{add-zero, zero-add, add-assoc, eq-or-lt-of-le, eq-zero-or-pos, le-of-suc-le-suc, not-suc-le-zero}
+use native.Mathlib.Nat.{add-zero, zero-add, add-assoc, mod-eq-of-lt, lt-of-lt-of-le, eq-or-lt-of-le, eq-zero-or-pos, le-of-suc-le-suc, not-suc-le-zero}
 use native.Mathlib.Omega.{arith}
 use borrow.Author.Tests.{lt-ltb, le-ltb, eq-eqb, ne-eqb}
-use lib.Arith.{digits-div}
 use lib.ListN.{length, getD, drop, length-append, List·getD-append}
 use lib.Seq.{getD-at, getD-drop, drop-drop}
 use Rattle.strings.specs.Xor.{_⊕_}
 use Rattle.strings.specs.Bytes.{Bytes, number, bytes}
-use Rattle.blocks.specs.Blocks.{firstBlock}
 use Rattle.blocks.specs.Field.{power}
 use Rattle.blocks.specs.Aes.{_•_, sBox, word, byteOf, rotWord, subWord, rcon, temp, ownWord, keyWord, keyWords}
-use Rattle.blocks.specs.Inner.{Constants}
-use Rattle.strings.proofs.Bytes.{bytes-below, bytes-number, number-append, padded, padded-add}
+use Rattle.strings.specs.Inner.{padded}
+use Rattle.strings.proofs.Bytes.{bytes-below, bytes-number}
 use Rattle.strings.proofs.Place.{number-fits}
-use Rattle.blocks.proofs.Blocks.{high-half}
 
 pub byteOf-below : (w i : ℕ) → byteOf w i < 256
 unfolding byteOf
@@ -41,14 +38,20 @@ pub sub-rot : (w : ℕ) → subWord (rotWord w) ≡ word (sBox (byteOf w 1)) (sB
 unfolding subWord byteOf
 sub-rot w = ap (λ (s : List ℕ). word (sBox (getD s 0 0)) (sBox (getD s 1 0)) (sBox (getD s 2 0)) (sBox (getD s 3 0))) (rot-bytes w)
 
--- The highest word of a block that is read.
-pub read-word : (i : ℕ) (s : List ℕ) → Bytes s → firstBlock (drop (4 * i) s) / 2 ^ 64 / 2 ^ 32 ≡ ownWord s i
-unfolding ownWord word padded
-read-word i s h =
-    let at = 4 * i in
-    let t = drop at s in
-    let low : number (padded 4 (drop 4 t)) < 256 ^ 4 = rw drop-drop (number-fits 4 4 (at + 4) s h (omega arith)) in
-    rw (high-half at s h, padded-add 4 4 t, number-append, digits-div (number (padded 4 t)) low) (simp (getD-drop, drop-drop, add-zero, add-assoc))
+-- The four bytes from place 4 i on are word i of the key itself.
+module _ (i : ℕ) (s : List ℕ) (h : Bytes s) where
+  four-fit : number (padded 4 (drop (4 * i) s)) < 256 ^ 4
+  four-fit = number-fits 4 4 (4 * i) s h (omega arith)
+
+  four-small : number (padded 4 (drop (4 * i) s)) < 2 ^ 64
+  four-small = lt-of-lt-of-le four-fit (omega arith)
+
+  pub read-own : number (padded 4 (drop (4 * i) s)) % 2 ^ 64 ≡ ownWord s i
+  unfolding ownWord word padded
+  read-own = mod-eq-of-lt four-small ∙ simp (getD-drop, drop-drop, add-zero, add-assoc)
+
+  pub read-fits : {r : ℕ} → r ≡ number (padded 4 (drop (4 * i) s)) % 2 ^ 64 → r < 2 ^ 32
+  read-fits e = rw (e, mod-eq-of-lt four-small) four-fit
 
 -- x, 2 x, 4 x, .. in the field of bytes, n of them: what the round constants are tested to be.
 unfoldable pub doubles : ℕ → ℕ → List ℕ
@@ -63,9 +66,9 @@ doubled (suc n) k (suc j) l =
     let e : k + suc j ≡ suc k + j = omega arith in
     rw e (doubled n (suc k) j (le-of-suc-le-suc l))
 
-pub constants : {n : ℕ} {t : List ℕ} → t ≡ doubles n 1 → Constants n t
+pub constant : {n : ℕ} {t : List ℕ} → t ≡ doubles n 1 → (j : ℕ) → j < n → getD t j 0 ≡ power 1 _•_ 0x02 j
 unfolding power
-constants {n} e = record { constant = λ j l. rw e (rw zero-add at (doubled n 0 j l)) }
+constant {n} e j l = rw e (rw zero-add at (doubled n 0 j l))
 
 -- What is added to the word Nk places back, in the middle of Nk words and at the first of them.
 module _ (Nk i t : ℕ) where

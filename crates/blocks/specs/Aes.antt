@@ -4,7 +4,7 @@ use Prim.Native.Nat.{ℕ, zero, suc, _+_, _-_, _*_, _/_, _%_, _^_, _<_}
 use mathlib.Core.Bool.{Bool, true, false, _&&_}
 use mathlib.Core.List.{List, [], _∷_, _++_}
 use lib.Dec.{ltb, eqb}
-use lib.ListN.{getD}
+use lib.ListN.{length, getD}
 use Rattle.strings.specs.Xor.{_⊕_}
 use Rattle.strings.specs.Bytes.{OfLength, number, bytes}
 use Rattle.blocks.specs.Field.{product, power}
@@ -82,17 +82,17 @@ mixColumns s = state (λ r c. mixed (at s r c) (at s ((r + 1) % 4) c) (at s ((r 
 unfoldable pub addRoundKey : List ℕ → List ℕ → List ℕ
 addRoundKey k s = state (λ r c. at s r c ⊕ at k r c)
 
-module _ (key : ℕ → List ℕ) where
+module _ (roundKeys : ℕ → List ℕ) where
   -- Round n, and the last one, which has no mixing.
   abbrev pub round : ℕ → List ℕ → List ℕ
-  round n s = addRoundKey (key n) (mixColumns (shiftRows (subBytes s)))
+  round n s = addRoundKey (roundKeys n) (mixColumns (shiftRows (subBytes s)))
 
   abbrev pub lastRound : ℕ → List ℕ → List ℕ
-  lastRound n s = addRoundKey (key n) (shiftRows (subBytes s))
+  lastRound n s = addRoundKey (roundKeys n) (shiftRows (subBytes s))
 
   -- The first round key is added, and n rounds follow.
   unfoldable pub rounds : ℕ → List ℕ → List ℕ
-  rounds zero s = addRoundKey (key 0) s
+  rounds zero s = addRoundKey (roundKeys 0) s
   rounds (suc n) s = round (suc n) (rounds n s)
 
   -- Cipher with Nr rounds.
@@ -176,13 +176,13 @@ unfoldable pub invMixColumns : List ℕ → List ℕ
 invMixColumns s = state (λ r c. invMixed (at s r c) (at s ((r + 1) % 4) c) (at s ((r + 2) % 4) c) (at s ((r + 3) % 4) c))
 
 -- AddRoundKey is its own inverse, 5.3.4.
-module _ (key : ℕ → List ℕ) where
+module _ (roundKeys : ℕ → List ℕ) where
   -- Round n, and the last one, which has no mixing.
   abbrev pub invRound : ℕ → List ℕ → List ℕ
-  invRound n s = invMixColumns (addRoundKey (key n) (invSubBytes (invShiftRows s)))
+  invRound n s = invMixColumns (addRoundKey (roundKeys n) (invSubBytes (invShiftRows s)))
 
   abbrev pub invLastRound : ℕ → List ℕ → List ℕ
-  invLastRound n s = addRoundKey (key n) (invSubBytes (invShiftRows s))
+  invLastRound n s = addRoundKey (roundKeys n) (invSubBytes (invShiftRows s))
 
   -- Rounds n down to 0.
   unfoldable pub invRounds : ℕ → List ℕ → List ℕ
@@ -191,7 +191,7 @@ module _ (key : ℕ → List ℕ) where
 
   -- InvCipher with Nr rounds.
   unfoldable pub invCipher : ℕ → List ℕ → List ℕ
-  invCipher Nr s = invRounds (Nr - 1) (addRoundKey (key Nr) s)
+  invCipher Nr s = invRounds (Nr - 1) (addRoundKey (roundKeys Nr) s)
 
 -- ---- blocks
 
@@ -201,7 +201,11 @@ encipher Nr w b = number (cipher (roundKey w) Nr (bytes 16 b))
 unfoldable pub decipher : ℕ → List ℕ → ℕ → ℕ
 decipher Nr w b = number (invCipher (roundKey w) Nr (bytes 16 b))
 
--- AES under a key of 16 bytes, which are 4 words.
+-- A key is 16 bytes, which are 4 words.
+unfoldable pub isKey : List ℕ → Bool
+isKey key = eqb (length key) 16
+
+-- AES under a key.
 unfoldable pub aes : List ℕ → BlockCipher
 aes key = record {
   E = encipher (Nr 4) (keyExpansion 4 key);

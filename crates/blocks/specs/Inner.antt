@@ -1,12 +1,11 @@
--- What only the contracts of inner functions cite: nobody has to believe it.
+-- What the contracts of inner functions cite: nobody has to believe it.
 use Prim.Native.Nat.{ℕ, _+_, _*_, _%_, _^_, _<_}
 use mathlib.Core.Path.{_≡_}
 use mathlib.Core.List.{List, [], _∷_}
 use lib.ListN.{getD}
 use Rattle.strings.specs.Xor.{_⊕_}
-use Rattle.blocks.specs.Field.{power}
 use Rattle.blocks.specs.BlockCipher.{BlockCipher}
-use Rattle.blocks.specs.Aes.{at, state, _•_, Nr, encipher, decipher}
+use Rattle.blocks.specs.Aes.{at, state, Nr, encipher, decipher}
 use Rattle.blocks.specs.declared.block.Block.{Block}
 use Rattle.blocks.specs.declared.aes.ExpandedKey.{ExpandedKey}
 
@@ -32,10 +31,6 @@ pub record Table (f : ℕ → ℕ) (t : List ℕ) : Type 0 where
 -- What a table makes of a state, entry by entry: x is that of s under every f whose table it is.
 abbrev pub Substituted : List ℕ → List ℕ → List ℕ → Type 0
 Substituted t s x = (f : ℕ → ℕ) → Table f t → x ≡ state (λ r c. f (at s r c))
-
--- The list t has the first bytes of Rcon[1] to Rcon[n].
-pub record Constants (n : ℕ) (t : List ℕ) : Type 0 where
-  pub constant : (j : ℕ) → j < n → getD t j 0 ≡ power 1 _•_ 0x02 j
 
 -- The columns, each from its second row on and the first one last.
 unfoldable pub nextRows : List ℕ → List ℕ

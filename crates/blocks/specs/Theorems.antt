@@ -2,7 +2,7 @@
 use Prim.Native.Nat.{ℕ, _^_, _<_}
 use mathlib.Core.Path.{_≡_}
 use mathlib.Core.List.{List}
-use Rattle.strings.specs.Bytes.{Below, number, bytes}
+use Rattle.strings.specs.Bytes.{Below}
 use Rattle.blocks.specs.Field.{timesX, product, power, powerSum, Ring}
 use Rattle.blocks.specs.BlockField.{_·_}
 use Rattle.blocks.specs.Inner.{horner}
@@ -33,6 +33,7 @@ pub record Theorems : Type 0 where
   pub mix-columns : Permutation State mixColumns invMixColumns
   pub add-round-key : (k : List ℕ) → State k → Permutation State (addRoundKey k) (addRoundKey k)
   -- So is the cipher, with any round keys and any number of rounds, and AES under every key.
-  pub cipher-permutation : (key : ℕ → List ℕ) → ((i : ℕ) → State (key i)) → (Nr : ℕ) → Permutation State (cipher key Nr) (invCipher key Nr)
+  pub cipher-permutation : (roundKeys : ℕ → List ℕ) → ((i : ℕ) → State (roundKeys i)) → (Nr : ℕ)
+      → Permutation State (cipher roundKeys Nr) (invCipher roundKeys Nr)
   pub words-permutation : (Nr : ℕ) (w : List ℕ) → Permutation IsBlock (encipher Nr w) (decipher Nr w)
   pub aes-permutation : (key : List ℕ) → BlockPermutation (aes key)

@@ -1,13 +1,16 @@
 // AES-128 of FIPS 197.
 ghost use Prim.Native.Nat.{_+_, _≤_, _<_};
 ghost use mathlib.Core.Path.{_≡_};
-ghost use Rattle.strings.specs.Xor.{_⊕_};
-ghost use Rattle.blocks.specs.Inner.{Table, Constants, value};
-ghost use Rattle.blocks.specs.Aes.{sBox, word, rotWord, subWord, temp, ownWord, keyWord, Nr, keyExpansion, roundKey, cipher, invCipher, encipher, decipher};
+ghost use mathlib.Core.Bool.{cond};
+ghost use lib.ListN.{replicate};
+ghost use Rattle.blocks.specs.Inner.{Table, value};
+ghost use Rattle.blocks.specs.Aes.{sBox, rotWord, subWord, rcon, temp, keyWord, Nr, keyExpansion, roundKey, cipher, invCipher, encipher, decipher, isKey};
 use crate::block::Block;
 use crate::inv_sbox;
 use crate::sbox;
 use crate::state;
+use strings::number;
+use strings::places;
 
 // The first bytes of Rcon, 5.2.
 const RCON: [u8; 10] = [0x01, 0x02, 0x04, 0x08, 0x10, 0x20, 0x40, 0x80, 0x1b, 0x36];
@@ -17,11 +20,10 @@ pub struct ExpandedKey {
     pub words: [u32; 44],
 }
 
-// The word of four bytes, the first highest.
-fn word(a: u8, b: u8, c: u8, d: u8) -> u32
-    ensures { λ r. ⌜ r ≡ word a b c d ⌝ }
-{
-    (((a as u32) * 256 + b as u32) * 256 + c as u32) * 256 + d as u32
+// What comes of a string that is to be a key.
+pub struct Expansion {
+    pub is_key: bool,
+    pub expanded: ExpandedKey,
 }
 
 // SubWord of RotWord, 5.2.
@@ -29,48 +31,62 @@ fn sub_rot_word(table: &state::Table, w: u32) -> u32
     requires { ⌜ Table sBox (now table) ⌝ }
     ensures { λ r. ⌜ r ≡ subWord (rotWord w) ⌝ }
 {
-    word(
-        state::look(table, state::byte(w, 1)),
-        state::look(table, state::byte(w, 2)),
-        state::look(table, state::byte(w, 3)),
-        state::look(table, state::byte(w, 0)),
+    number::word(
+        places::entry(table, number::byte(w, 1)),
+        places::entry(table, number::byte(w, 2)),
+        places::entry(table, number::byte(w, 3)),
+        places::entry(table, number::byte(w, 0)),
     )
 }
 
-// Word i of the key itself.
-fn own_word(key: &[u8], i: usize) -> u32
-    requires { ⌜ i < 4 ⌝ }
-    ensures { λ r. ⌜ r ≡ ownWord (now (key .entry)) i ⌝ }
+// Rcon[j + 1].
+fn round_constant(j: usize) -> u32
+    requires { ⌜ j < Nr 4 ⌝ }
+    ensures { λ r. ⌜ r ≡ rcon (j + 1) ⌝ }
 {
-    (Block::read(key, 4 * i).hi >> 32) as u32
+    number::word(RCON[j], 0, 0, 0)
 }
 
-// Word i of the expanded key, from the one four back and the one before it.
-fn next_word(table: &state::Table, rcon: &[u8; 10], i: usize, back: u32, before: u32) -> u32
-    requires { ⌜ Table sBox (now table) × Constants (Nr 4) (now rcon) × (4 ≤ i) × (i < 44) ⌝ }
-    ensures { λ r. ⌜ r ≡ back ⊕ temp 4 i before ⌝ }
+// What is added to the word four places back to give word i, from the word before it.
+fn temp(table: &state::Table, i: usize, before: u32) -> u32
+    requires { ⌜ Table sBox (now table) × (4 ≤ i) × (i < 44) ⌝ }
+    ensures { λ r. ⌜ r ≡ temp 4 i before ⌝ }
 {
     if i % 4 > 0 {
-        return back ^ before;
+        return before;
     }
-    back ^ (sub_rot_word(table, before) ^ word(rcon[i / 4 - 1], 0, 0, 0))
+    sub_rot_word(table, before) ^ round_constant(i / 4 - 1)
 }
 
 // Word i of the expanded key, from those before it.
-fn key_word(
-    key: &[u8],
-    table: &state::Table,
-    rcon: &[u8; 10],
-    words: &state::Words,
-    i: usize,
-) -> u32
-    requires { ⌜ Table sBox (now table) × Constants (Nr 4) (now rcon) × (i < 44) ⌝ }
+fn key_word(key: &[u8], table: &state::Table, words: &state::Words, i: usize) -> u32
+    requires { ⌜ Table sBox (now table) × (i < 44) ⌝ }
     ensures { λ r. ⌜ r ≡ keyWord 4 (now (key .entry)) i (now (words .entry)) ⌝ }
 {
     if i < 4 {
-        return own_word(key, i);
+        return number::get(key, 4 * i, 4) as u32;
     }
-    next_word(table, rcon, i, words[i - 4], words[i - 1])
+    words[i - 4] ^ temp(table, i, words[i - 1])
+}
+
+// KeyExpansion, 5.2.
+fn key_expansion(key: &[u8]) -> state::Words
+    ensures { λ r. ⌜ r ≡ keyExpansion 4 (now (key .entry)) ⌝ }
+{
+    let table = sbox::table();
+    let mut words = [0u32; 44];
+    for i in 0..44usize {
+        let w = key_word(key, &table, &words, i);
+        words[i] = w;
+    }
+    words
+}
+
+// Whether a string is a key.
+pub fn is_key(key: &[u8]) -> bool
+    ensures { λ r. ⌜ r ≡ isKey (now (key .entry)) ⌝ }
+{
+    key.len() == 16
 }
 
 // Cipher, 5.1.
@@ -101,18 +117,21 @@ fn inv_cipher(words: &state::Words, s: state::State) -> state::State
 }
 
 impl ExpandedKey {
-    // Expands a key of 16 bytes. Of a longer one the rest is not read, and a shorter one is read with zero bytes behind it.
-    pub fn new(key: &[u8]) -> ExpandedKey
-        ensures { λ r. ⌜ r .words ≡ keyExpansion 4 (now (key .entry)) ⌝ }
+    // Expands a key, and says whether it is one: from any other string come zeros.
+    pub fn new(key: &[u8]) -> Expansion
+        ensures { λ r. ⌜ r .«is_key» ≡ isKey (now (key .entry)) ⌝ }
+        ensures { λ r. ⌜ r .expanded .words ≡ cond (isKey (now (key .entry))) (keyExpansion 4 (now (key .entry))) (replicate 44 0) ⌝ }
     {
-        let table = sbox::table();
-        let rcon = RCON;
+        let is_key = is_key(key);
         let mut words = [0u32; 44];
-        for i in 0..44usize {
-            let w = key_word(key, &table, &rcon, &words, i);
-            words[i] = w;
+        if is_key {
+            let expansion = key_expansion(key);
+            words = expansion;
         }
-        ExpandedKey { words }
+        Expansion {
+            is_key,
+            expanded: ExpandedKey { words },
+        }
     }
 
     // E of a block.

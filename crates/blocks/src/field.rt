@@ -1,25 +1,18 @@
 // The field of 2^128 elements: blocks with x^128 = x^7 + x^2 + x + 1.
 ghost use mathlib.Core.Path.{_≡_};
-ghost use Prim.Native.Nat.{_*_, _/_, _%_, _^_, _<_};
+ghost use Prim.Native.Nat.{_*_, _/_, _%_, _^_};
 ghost use Rattle.blocks.specs.Blocks.{blocks};
 ghost use Rattle.blocks.specs.Field.{times01};
 ghost use Rattle.blocks.specs.BlockField.{timesX, _·_, powerSum};
 ghost use Rattle.blocks.specs.Inner.{value};
 use crate::block::Block;
 
-// The word where `bit` is 1 and zero where it is 0: the mask is zero less the bit, which the kit compiles with no branch.
-fn masked(bit: u64, word: u64) -> u64
-    requires { ⌜ bit < 2 ⌝ }
-    ensures { λ r. ⌜ r ≡ times01 bit word ⌝ }
+// The word where the highest bit of `high` is 1 and zero where it is 0: the mask is zero less that bit, which the kit compiles with no
+// branch.
+fn masked(high: u64, word: u64) -> u64
+    ensures { λ r. ⌜ r ≡ times01 (high / 2 ^ 63) word ⌝ }
 {
-    std::num::wrapping_sub_u64(0, bit) & word
-}
-
-// The coefficient of the power 127 of x.
-fn top(a: Block) -> u64
-    ensures { λ r. ⌜ (r ≡ value a / 2 ^ 127) × (r < 2) ⌝ }
-{
-    a.hi >> 63
+    std::num::wrapping_sub_u64(0, high >> 63) & word
 }
 
 // The block shifted left by one bit: the two halves, with the carry between them.
@@ -40,18 +33,17 @@ pub fn times_x(a: Block) -> Block
     let s = shifted(a);
     Block {
         hi: s.hi,
-        lo: s.lo ^ masked(top(a), 0x87),
+        lo: s.lo ^ masked(a.hi, 0x87),
     }
 }
 
-// a where `bit` is 1 and zero where it is 0.
-fn times_bit(bit: u64, a: Block) -> Block
-    requires { ⌜ bit < 2 ⌝ }
-    ensures { λ r. ⌜ value r ≡ times01 bit (value a) ⌝ }
+// The coefficient of the power 127 of x in b, times a.
+fn times_top(b: Block, a: Block) -> Block
+    ensures { λ r. ⌜ value r ≡ times01 (value b / 2 ^ 127) (value a) ⌝ }
 {
     Block {
-        hi: masked(bit, a.hi),
-        lo: masked(bit, a.lo),
+        hi: masked(b.hi, a.hi),
+        lo: masked(b.hi, a.lo),
     }
 }
 
@@ -62,21 +54,21 @@ pub fn product(a: Block, b: Block) -> Block
     let mut sum = Block::ZERO;
     let mut rest = b;
     for _ in 0..128u32 {
-        sum = times_x(sum).xor(times_bit(top(rest), a));
+        sum = times_x(sum).xor(times_top(rest, a));
         rest = shifted(rest);
     }
     sum
 }
 
-// The sum of the blocks of `data`, the last padded, each times its own power of the key: 1 for the last block, one more for each
-// before it. By Horner's rule.
-pub fn power_sum(key: Block, data: &[u8]) -> Block
-    ensures { λ r. ⌜ value r ≡ powerSum (value key) (blocks (now («data» .entry))) ⌝ }
+// The sum of the blocks of a string, the last padded, each times its own power of R: 1 for the last block, one more for each before
+// it. By Horner's rule.
+pub fn power_sum(r: Block, s: &[u8]) -> Block
+    ensures { λ x. ⌜ value x ≡ powerSum (value r) (blocks (now (s .entry))) ⌝ }
 {
     let mut sum = Block::ZERO;
     let mut at = 0;
-    while at < data.len() {
-        sum = product(sum.xor(Block::read(data, at)), key);
+    while at < s.len() {
+        sum = product(sum.xor(Block::read(s, at)), r);
         at += 16;
     }
     sum

@@ -1,4 +1,4 @@
-// The substitution box of FIPS 197, 5.1.1, handed out whole: the caller keeps it in a local and lends it, since a constant table that
+// The S-box of FIPS 197, 5.1.1, handed out whole: the caller keeps it in a local and lends it, since a constant table that
 // is indexed in place is stored anew at each look-up.
 ghost use Rattle.blocks.specs.Inner.{Table};
 ghost use Rattle.blocks.specs.Aes.{sBox};

@@ -1,9 +1,10 @@
 // The steps of AES's rounds, FIPS 197, 5.1 and 5.3. A state is 16 bytes, of which byte r + 4c stands in row r, column c.
-ghost use Prim.Native.Nat.{_+_, _*_, _/_, _%_, _≤_, _<_};
+ghost use Prim.Native.Nat.{_≤_, _<_};
 ghost use mathlib.Core.Path.{_≡_};
-ghost use lib.ListN.{getD};
-ghost use Rattle.blocks.specs.Aes.{sBox, invSBox, shiftRows, mixed, mixColumns, addRoundKey, invShiftRows, invMixColumns, round, lastRound, invRound, invLastRound, byteOf, Nr, roundKey};
+ghost use Rattle.blocks.specs.Aes.{sBox, invSBox, shiftRows, mixed, mixColumns, addRoundKey, invShiftRows, invMixColumns, round, lastRound, invRound, invLastRound, Nr, roundKey};
 ghost use Rattle.blocks.specs.Inner.{Table, Substituted, nextRows};
+use strings::number;
+use strings::places;
 
 // A state, the words of an expanded key, and a table of the bytes.
 pub(crate) type State = [u8; 16];
@@ -15,20 +16,13 @@ pub(crate) type Table = [u8; 256];
 // The number of rounds that a key of 16 bytes gets.
 pub(crate) const ROUNDS: usize = 10;
 
-// The entry at a byte.
-pub(crate) fn look(table: &Table, b: u8) -> u8
-    ensures { λ r. ⌜ r ≡ getD (now (table .entry)) b 0 ⌝ }
-{
-    table[b as usize]
-}
-
 // SubBytes, or its inverse, by the S-box that is lent.
 pub(crate) fn sub_bytes(table: &Table, s: State) -> State
     ensures { λ x. ⌜ Substituted (now (table .entry)) s x ⌝ }
 {
     let mut t = [0u8; 16];
     for i in 0..16usize {
-        t[i] = look(table, s[i]);
+        t[i] = places::entry(table, s[i]);
     }
     t
 }
@@ -89,29 +83,14 @@ pub(crate) fn inv_mix_columns(s: State) -> State
     mix_columns(mix_columns(mix_columns(s)))
 }
 
-// Byte i of a word, the highest first.
-pub(crate) fn byte(w: u32, i: usize) -> u8
-    requires { ⌜ i < 4 ⌝ }
-    ensures { λ r. ⌜ r ≡ byteOf w i ⌝ }
-{
-    ((w >> (24 - 8 * i)) % 256) as u8
-}
-
-// Byte i of the key of round n.
-fn key_byte(words: &Words, n: usize, i: usize) -> u8
-    requires { ⌜ (n ≤ Nr 4) × (i < 16) ⌝ }
-    ensures { λ r. ⌜ r ≡ byteOf (getD (now (words .entry)) (4 * n + i / 4) 0) (i % 4) ⌝ }
-{
-    byte(words[4 * n + i / 4], i % 4)
-}
-
+// AddRoundKey with the key of round n, whose words are the columns.
 pub(crate) fn add_round_key(words: &Words, n: usize, s: State) -> State
     requires { ⌜ n ≤ Nr 4 ⌝ }
     ensures { λ x. ⌜ x ≡ addRoundKey (roundKey (now (words .entry)) n) s ⌝ }
 {
-    let mut t = [0u8; 16];
+    let mut t = s;
     for i in 0..16usize {
-        t[i] = s[i] ^ key_byte(words, n, i);
+        t[i] = t[i] ^ number::byte(words[4 * n + i / 4], i);
     }
     t
 }

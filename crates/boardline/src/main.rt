@@ -8,21 +8,22 @@ use libc::STDIN_FILENO;
 use libc::STDOUT_FILENO;
 use line::LONGEST;
 use line::ROOM;
+use text::part::Kept;
 
-// How the lines of a chunk were answered: with so many characters kept of the line under way, or
-// not, since standard output takes no more.
+// How the lines of a chunk were answered: with this kept of the line under way, or not, since
+// standard output takes no more.
 enum Went {
-    On(usize),
+    On(Kept),
     Closed,
 }
 
 // A proved loop has to end, and nothing says that the input does. So the loop counts its turns
 // down, from a number that no run uses up.
 fn main() {
-    let mut kept = [0u8; LONGEST];
+    let mut line = [0u8; LONGEST];
     let mut out = [0u8; ROOM];
     let mut chunk = io::large_buffer();
-    let mut count = 0;
+    let mut kept = Kept::Characters(0);
     let mut turns = u64::MAX;
     while turns > 0 {
         let got = libc::read(STDIN_FILENO, &mut chunk);
@@ -34,34 +35,29 @@ fn main() {
         if n == 0 {
             break;
         }
-        let Went::On(next) = answer_lines(&mut kept, count, &chunk[..n], &mut out) else {
+        let Went::On(next) = answer_lines(&mut line, kept, &chunk[..n], &mut out) else {
             return;
         };
-        count = next;
+        kept = next;
         turns -= 1;
     }
-    let written = line::last(&kept, count, &mut out);
+    let written = line::last(&line, kept, &mut out);
     write(&out, written);
 }
 
 // Answers each line that ends in the chunk, and goes on with the line under way.
-fn answer_lines(
-    kept: &mut [u8; LONGEST],
-    count: usize,
-    chunk: &[u8],
-    out: &mut [u8; ROOM],
-) -> Went {
-    let mut n = count;
+fn answer_lines(line: &mut [u8; LONGEST], kept: Kept, chunk: &[u8], out: &mut [u8; ROOM]) -> Went {
+    let mut kept = kept;
     let mut at = 0;
     while at < chunk.len() {
-        let step = line::next(kept, n, &chunk[at..], out);
+        let step = line::next(line, kept, &chunk[at..], out);
         if !write(out, step.written) {
             return Went::Closed;
         }
-        n = step.count;
+        kept = step.kept;
         at += step.used;
     }
-    Went::On(n)
+    Went::On(kept)
 }
 
 // Writes the first n bytes, or says on standard error that it cannot.

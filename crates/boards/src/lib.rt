@@ -1,29 +1,29 @@
 // 01's four functions for the app in C. include/boards.h declares and explains them; a slice is there a pointer and a length. Each answers the number of
 // the call that it makes, 0 where the work was done, and carries that call's promises.
 ghost use mathlib.Core.Path.{_≡_};
-ghost use Rattle.strings.specs.Call.{leftBy};
-ghost use Rattle.hch.specs.Hch.{enciphered, deciphered};
-ghost use Rattle.hch.specs.Call.{numberOf, answerOf, OnePlaintext};
-ghost use Rattle.pack.specs.Sealing.{seal, numberOf as numberOfSealing, answerOf as answerOfSealing};
+ghost use Rattle.strings.specs.Call.{numberOf, leftBy};
+ghost use Rattle.hch.specs.Hch.{enciphered, deciphered, hch as scheme};
+ghost use Rattle.hch.specs.Call.{answerOf, OnePlaintext};
+ghost use Rattle.pack.specs.Sealing.{seal, answerOf as answerOfSealing};
 ghost use Rattle.pack.specs.Opening.{decipheredBlock, numberOf as numberOfOpening, answerOf as answerOfOpening, OneBlock, Meaning};
 
-// Enciphers the data in place by HCH.
+// Enciphers the message in place by HCH.
 #[no_mangle]
-pub extern "C" fn boards_encipher(key: &[u8], tweak: &[u8], data: &mut [u8]) -> u32
-    ensures { λ r. ⌜ r ≡ numberOf (answerOf (now (key .entry)) (now (tweak .entry)) (now («data» .entry))) ⌝ }
-    ensures { λ r. ⌜ now («data» .exit) ≡ leftBy r (enciphered (now (key .entry)) (now (tweak .entry)) (now («data» .entry))) (now («data» .entry)) ⌝ }
+pub extern "C" fn boards_encipher(key: &[u8], tweak: &[u8], message: &mut [u8]) -> u32
+    ensures { λ r. ⌜ r ≡ numberOf (answerOf (now (key .entry)) (now (tweak .entry)) (now (message .entry))) ⌝ }
+    ensures { λ r. ⌜ now (message .exit) ≡ leftBy r (enciphered (now (key .entry)) (now (tweak .entry)) (now (message .entry))) (now (message .entry)) ⌝ }
 {
-    hch::encipher(key, tweak, data).number()
+    hch::encipher(key, tweak, message).number()
 }
 
-// Deciphers the data in place by HCH. What it leaves where the work was done is the one message that enciphers to what was lent.
+// Deciphers the message in place by HCH. What it leaves where the work was done is the one message that enciphers to what was lent.
 #[no_mangle]
-pub extern "C" fn boards_decipher(key: &[u8], tweak: &[u8], data: &mut [u8]) -> u32
-    ensures { λ r. ⌜ r ≡ numberOf (answerOf (now (key .entry)) (now (tweak .entry)) (now («data» .entry))) ⌝ }
-    ensures { λ r. ⌜ now («data» .exit) ≡ leftBy r (deciphered (now (key .entry)) (now (tweak .entry)) (now («data» .entry))) (now («data» .entry)) ⌝ }
-    ensures { λ r. ⌜ OnePlaintext r (now (key .entry)) (now (tweak .entry)) (now («data» .entry)) (now («data» .exit)) ⌝ }
+pub extern "C" fn boards_decipher(key: &[u8], tweak: &[u8], message: &mut [u8]) -> u32
+    ensures { λ r. ⌜ r ≡ numberOf (answerOf (now (key .entry)) (now (tweak .entry)) (now (message .entry))) ⌝ }
+    ensures { λ r. ⌜ now (message .exit) ≡ leftBy r (deciphered (now (key .entry)) (now (tweak .entry)) (now (message .entry))) (now (message .entry)) ⌝ }
+    ensures { λ r. ⌜ OnePlaintext r (now (key .entry)) (now (tweak .entry)) (now (message .entry)) (now (message .exit)) ⌝ }
 {
-    hch::decipher(key, tweak, data).number()
+    hch::decipher(key, tweak, message).number()
 }
 
 // Seals a payload into the lent block for a pack and a place. What it leaves where the work was done is the one block that opens to them.
@@ -35,9 +35,9 @@ pub extern "C" fn boards_seal(
     place: u32,
     block: &mut [u8],
 ) -> u32
-    ensures { λ r. ⌜ r ≡ numberOfSealing (answerOfSealing (now (key .entry)) (now (payload .entry)) place (now (block .entry))) ⌝ }
-    ensures { λ r. ⌜ now (block .exit) ≡ leftBy r (seal enciphered (now (key .entry)) (now (payload .entry)) pack place) (now (block .entry)) ⌝ }
-    ensures { λ r. ⌜ (r ≡ 0 → OneBlock deciphered (now (key .entry)) (now (payload .entry)) pack place (now (block .exit))) ⌝ }
+    ensures { λ r. ⌜ r ≡ numberOf (answerOfSealing scheme (now (key .entry)) (now (payload .entry)) place (now (block .entry))) ⌝ }
+    ensures { λ r. ⌜ now (block .exit) ≡ leftBy r (seal scheme (now (key .entry)) (now (payload .entry)) pack place) (now (block .entry)) ⌝ }
+    ensures { λ r. ⌜ (r ≡ 0 → OneBlock scheme (now (key .entry)) (now (payload .entry)) pack place (now (block .exit))) ⌝ }
 {
     pack::seal(key, payload, pack, place, block).number()
 }
@@ -45,9 +45,9 @@ pub extern "C" fn boards_seal(
 // Opens the lent block as that of a pack and a place. The payload and its length u are read from the block that it leaves.
 #[no_mangle]
 pub extern "C" fn boards_open(key: &[u8], pack: u64, place: u32, block: &mut [u8]) -> u32
-    ensures { λ r. ⌜ r ≡ numberOfOpening (answerOfOpening deciphered (now (key .entry)) pack place (now (block .entry))) ⌝ }
-    ensures { λ r. ⌜ now (block .exit) ≡ leftBy r (decipheredBlock deciphered (now (key .entry)) pack place (now (block .entry))) (now (block .entry)) ⌝ }
-    ensures { λ r. ⌜ Meaning enciphered deciphered r (now (key .entry)) pack place (now (block .entry)) (now (block .exit)) ⌝ }
+    ensures { λ r. ⌜ r ≡ numberOfOpening (answerOfOpening scheme (now (key .entry)) pack place (now (block .entry))) ⌝ }
+    ensures { λ r. ⌜ now (block .exit) ≡ leftBy r (decipheredBlock scheme (now (key .entry)) pack place (now (block .entry))) (now (block .entry)) ⌝ }
+    ensures { λ r. ⌜ Meaning scheme r (now (key .entry)) pack place (now (block .entry)) (now (block .exit)) ⌝ }
 {
     pack::open(key, pack, place, block).number()
 }

@@ -4,11 +4,13 @@ use mathlib.Core.Path.{refl}
 use mathlib.Core.List.{flatMap}
 use Rattle.text.specs.Hex.{digit, isDigit, value, hex, allDigits, isHex, unhex}
 use Rattle.text.specs.Part.{splitFrom}
-use Rattle.hch.specs.Call.{answerOf}
+use Rattle.strings.specs.Call.{looksAt}
+use Rattle.blocks.specs.Aes.{isKey}
+use Rattle.hch.specs.Call.{tests}
 use Rattle.line.specs.Line.{commanded, requested, requestOf, decimal, refusal, reply, replyTo, answer}
 use Rattle.line.specs.Input.{linesOf, answers}
 use Rattle.examples.specs.Program.{Program}
 
 pub program : Program
-unfolding flatMap digit isDigit value hex allDigits isHex unhex splitFrom answerOf commanded requested requestOf decimal refusal reply replyTo answer linesOf answers
+unfolding flatMap digit isDigit value hex allDigits isHex unhex splitFrom isKey looksAt tests commanded requested requestOf decimal refusal reply replyTo answer linesOf answers
 program = record { whole-case = refl }

@@ -1,5 +1,5 @@
 pub mod Call
-pub mod Steps
+pub mod LentBytes
 pub mod Scheme
 pub mod Examples
 pub mod Theorems

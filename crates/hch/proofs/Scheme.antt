@@ -16,7 +16,8 @@ use Rattle.blocks.proofs.Blocks.{blocks-below}
 use Rattle.blocks.proofs.Counter.{counter-cipher}
 use Rattle.strings.proofs.Pass.{pass, pass-cipher}
 use Rattle.strings.proofs.Permutations.{agreeing}
-use Rattle.hch.specs.Hch.{bin, H, Ctr, encipher, decipher, ctrBytes, fromI, Parts}
+use Rattle.hch.specs.Hch.{bin, H, Ctr, encipher, decipher, Parts}
+use Rattle.hch.specs.Inner.{ctrBytes, fromI}
 
 bin-below : (l : ℕ) → IsBlock (bin l)
 unfolding bin

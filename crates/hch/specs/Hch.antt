@@ -8,15 +8,15 @@ use Rattle.strings.specs.Xor.{_⊕_}
 use Rattle.strings.specs.Bytes.{Below, number, bytes}
 use Rattle.blocks.specs.Blocks.{blocks, string, IsBlock}
 use Rattle.blocks.specs.BlockField.{timesX, powerSum}
-use Rattle.strings.specs.Cipher.{Permutation}
-use Rattle.blocks.specs.Counter.{masked, maskedBytes}
-use Rattle.blocks.specs.Aes.{aes}
+use Rattle.strings.specs.Cipher.{Permutation, Scheme}
+use Rattle.blocks.specs.Counter.{masked}
+use Rattle.blocks.specs.Aes.{isKey, aes}
 
 -- 01, "bin(l) is l as a 16-byte big-endian number": as a block it is l itself, cut where 16 bytes do not hold it.
 unfoldable pub bin : ℕ → ℕ
 bin l = l % 2 ^ 128
 
--- Formula (1): H with R and Q over A₁, A₂, …, Aₘ. For HCH the keyed sum is A₂ R ^ (m - 1) ⊕ … ⊕ Aₘ R, `powerSum` of the blocks' Field.antt.
+-- Formula (1): H with R and Q over A₁, A₂, …, Aₘ. For HCH the keyed sum is A₂ R ^ (m - 1) ⊕ … ⊕ Aₘ R, `powerSum` of the blocks' BlockField.antt.
 module _ (sum : ℕ → List ℕ → ℕ) where
   unfoldable pub H : ℕ → ℕ → ℕ → List ℕ → ℕ
   H R Q A₁ A₂…Aₘ = Q ⊕ A₁ ⊕ sum R A₂…Aₘ
@@ -94,15 +94,5 @@ enciphered key tweak P = encipher (aes key .E) timesX powerSum (number tweak) P
 unfoldable pub deciphered : List ℕ → List ℕ → List ℕ → List ℕ
 deciphered key tweak C = decipher (aes key .E) (aes key .D) timesX powerSum (number tweak) C
 
--- ---- what else the contracts of the code cite
-
--- Steps 5 and 6 on the bytes behind the first block.
-unfoldable pub ctrBytes : (E : ℕ → ℕ) → ℕ → List ℕ → List ℕ
-ctrBytes E S = maskedBytes (λ i. E (S ⊕ bin i)) 1
-
--- From I on, which is the same both ways: Q stands for the key of step 7, which is xQ in enciphering, A₁ for its first block, and s for the
--- bytes behind the first block.
-unfoldable pub fromI : (E : ℕ → ℕ) (sum : ℕ → List ℕ → ℕ) (R Q I A₁ : ℕ) → List ℕ → List ℕ
-fromI E sum R Q I A₁ s =
-    let t = ctrBytes E (E I) s in
-    bytes 16 (H sum R Q A₁ (blocks t)) ++ t
+abbrev pub hch : Scheme
+hch = record { isKey = isKey; encipher = enciphered; decipher = deciphered }

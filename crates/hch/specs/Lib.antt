@@ -1,3 +1,4 @@
 pub mod Hch
 pub mod Call
+pub mod Inner
 pub mod Theorems

@@ -8,54 +8,34 @@ ghost use Rattle.strings.specs.Inner.{overwrite};
 ghost use Rattle.blocks.specs.Blocks.{firstBlock, blocks};
 ghost use Rattle.blocks.specs.BlockField.{timesX, powerSum};
 ghost use Rattle.blocks.specs.Inner.{value, under};
-ghost use Rattle.strings.specs.Call.{leftBy};
-ghost use Rattle.hch.specs.Hch.{bin, H as polynomialHash, ctrBytes, fromI, encipher, decipher, enciphered, deciphered};
-ghost use Rattle.hch.specs.Call.{numberOf, answerOf, OnePlaintext};
+ghost use Rattle.strings.specs.Call.{numberOf, leftBy};
+ghost use Rattle.hch.specs.Hch.{bin, H as polynomialHash, encipher, decipher, enciphered, deciphered, hch as scheme};
+ghost use Rattle.hch.specs.Inner.{ctrBytes, fromI};
+ghost use Rattle.hch.specs.Call.{answerOf, OnePlaintext};
+use blocks::aes;
 use blocks::aes::ExpandedKey;
 use blocks::block::Block;
 use blocks::field;
+use strings::refusal::Answer;
+use strings::refusal::Refusal;
 
-// What a call answers: that it was done, or why it was not.
-pub enum Answer {
-    Done,
-    KeyLength,
-    TweakLength,
-    TooShort,
-    TooLong,
-}
-
-impl Answer {
-    // 01's number of a refusal, and 0 for a call that was done.
-    pub fn number(self) -> u32
-        ensures { λ r. ⌜ r ≡ numberOf self ⌝ }
-    {
-        match self {
-            Answer::Done => 0,
-            Answer::KeyLength => 1,
-            Answer::TweakLength => 2,
-            Answer::TooShort => 3,
-            Answer::TooLong => 4,
-        }
-    }
-}
-
-// The tests of a call, in 01's order.
-fn judge(key: &[u8], tweak: &[u8], data: &[u8]) -> Answer
-    ensures { λ r. ⌜ r ≡ answerOf (now (key .entry)) (now (tweak .entry)) (now («data» .entry)) ⌝ }
+// Whether HCH takes the key: AES's test.
+pub fn is_key(key: &[u8]) -> bool
+    ensures { λ r. ⌜ r ≡ scheme .isKey (now (key .entry)) ⌝ }
 {
-    if key.len() != 16 {
-        return Answer::KeyLength;
-    }
-    if tweak.len() != 16 {
-        return Answer::TweakLength;
-    }
-    if data.len() < 16 {
-        return Answer::TooShort;
-    }
-    if data.len() > 4096 {
-        return Answer::TooLong;
-    }
+    aes::is_key(key)
+}
+
+// What a call looks at, in 01's order.
+fn judge(key: &[u8], tweak: &[u8], message: &[u8]) -> Answer
+    ensures { λ r. ⌜ r ≡ answerOf (now (key .entry)) (now (tweak .entry)) (now (message .entry)) ⌝ }
+{
+    let valid = is_key(key);
     Answer::Done
+        .refuse_if(!valid, Refusal::KeyLength)
+        .refuse_if(tweak.len() != 16, Refusal::TweakLength)
+        .refuse_if(message.len() < 16, Refusal::TooShort)
+        .refuse_if(message.len() > 4096, Refusal::TooLong)
 }
 
 // a ⊕ bin(n).
@@ -69,97 +49,101 @@ fn xor_bin(a: Block, n: usize) -> Block
 }
 
 // Step 1: Q, from R and the length in bytes.
-fn hash_q(key: ExpandedKey, r: Block, length: usize) -> Block
+fn hash_q(expanded: ExpandedKey, r: Block, length: usize) -> Block
     requires { ⌜ length ≤ 4096 ⌝ }
-    ensures { λ x. ⌜ value x ≡ under key .E (value r ⊕ bin (8 * length)) ⌝ }
+    ensures { λ x. ⌜ value x ≡ under expanded .E (value r ⊕ bin (8 * length)) ⌝ }
 {
-    key.encipher(xor_bin(r, 8 * length))
+    expanded.encipher(xor_bin(r, 8 * length))
 }
 
-// Formula (1): the first block by itself, the others where they stand in `data`, behind the first 16 bytes.
-fn hash(r: Block, q: Block, first: Block, data: &[u8]) -> Block
-    requires { ⌜ 16 ≤ length (now «data») ⌝ }
-    ensures { λ x. ⌜ value x ≡ polynomialHash powerSum (value r) (value q) (value first) (blocks (drop 16 (now («data» .entry)))) ⌝ }
+// Formula (1): the first block by itself, the others where they stand in `message`, behind the first 16 bytes.
+fn hash(r: Block, q: Block, first: Block, message: &[u8]) -> Block
+    requires { ⌜ 16 ≤ length (now message) ⌝ }
+    ensures { λ x. ⌜ value x ≡ polynomialHash powerSum (value r) (value q) (value first) (blocks (drop 16 (now (message .entry)))) ⌝ }
 {
-    q.xor(first).xor(field::power_sum(r, &data[16..]))
+    q.xor(first).xor(field::power_sum(r, &message[16..]))
 }
 
-// Adds E(S ⊕ bin(at / 16 + 1)) to the block at `at`, cut where `data` ends.
-fn mask_block(key: ExpandedKey, s: Block, data: &mut [u8], at: usize)
-    ensures { λ _. ⌜ now («data» .exit) ≡ overwrite at (bytes 16 (firstBlock (drop at (now («data» .entry))) ⊕ under key .E (value s ⊕ bin (at / 16 + 1)))) (now («data» .entry)) ⌝ }
+// Adds E(S ⊕ bin(at / 16 + 1)) to the block at `at`, cut where `message` ends.
+fn mask_block(expanded: ExpandedKey, s: Block, message: &mut [u8], at: usize)
+    ensures { λ _. ⌜ now (message .exit) ≡ overwrite at (bytes 16 (firstBlock (drop at (now (message .entry))) ⊕ under expanded .E (value s ⊕ bin (at / 16 + 1)))) (now (message .entry)) ⌝ }
 {
-    let mask = key.encipher(xor_bin(s, at / 16 + 1));
-    Block::read(data, at).xor(mask).write(data, at);
+    let mask = expanded.encipher(xor_bin(s, at / 16 + 1));
+    Block::read(message, at).xor(mask).write(message, at);
 }
 
 // Formula (3) on bytes, block by block where they stand, the last cut as it was.
-fn counter(key: ExpandedKey, s: Block, data: &mut [u8])
-    ensures { λ _. ⌜ now («data» .exit) ≡ ctrBytes (under key .E) (value s) (now («data» .entry)) ⌝ }
+fn counter(expanded: ExpandedKey, s: Block, message: &mut [u8])
+    ensures { λ _. ⌜ now (message .exit) ≡ ctrBytes (under expanded .E) (value s) (now (message .entry)) ⌝ }
 {
     let mut at = 0;
-    while at < data.len() {
-        mask_block(key, s, data, at);
+    while at < message.len() {
+        mask_block(expanded, s, message, at);
         at += 16;
     }
 }
 
 // Table II from I on: the counter step on the bytes from 16 on, and the hash of what they are then, in the place of the first block.
-fn finish(key: ExpandedKey, r: Block, q: Block, i: Block, first: Block, data: &mut [u8])
-    requires { ⌜ 16 ≤ length (now «data») ⌝ }
-    ensures { λ _. ⌜ now («data» .exit) ≡ fromI (under key .E) powerSum (value r) (value q) (value i) (value first) (drop 16 (now («data» .entry))) ⌝ }
+fn finish(expanded: ExpandedKey, r: Block, q: Block, i: Block, first: Block, message: &mut [u8])
+    requires { ⌜ 16 ≤ length (now message) ⌝ }
+    ensures { λ _. ⌜ now (message .exit) ≡ fromI (under expanded .E) powerSum (value r) (value q) (value i) (value first) (drop 16 (now (message .entry))) ⌝ }
 {
-    let s = key.encipher(i);
-    counter(key, s, &mut data[16..]);
-    hash(r, q, first, data).write(data, 0);
+    let s = expanded.encipher(i);
+    counter(expanded, s, &mut message[16..]);
+    hash(r, q, first, message).write(message, 0);
 }
 
 // Table II, left.
-fn encipher_message(key: ExpandedKey, tweak: Block, data: &mut [u8])
-    requires { ⌜ (16 ≤ length (now «data»)) × (length (now «data») ≤ 4096) ⌝ }
-    ensures { λ _. ⌜ now («data» .exit) ≡ encipher (under key .E) timesX powerSum (value tweak) (now («data» .entry)) ⌝ }
+fn encipher_message(expanded: ExpandedKey, tweak: Block, message: &mut [u8])
+    requires { ⌜ (16 ≤ length (now message)) × (length (now message) ≤ 4096) ⌝ }
+    ensures { λ _. ⌜ now (message .exit) ≡ encipher (under expanded .E) timesX powerSum (value tweak) (now (message .entry)) ⌝ }
 {
-    let r = key.encipher(tweak);
-    let q = hash_q(key, r, data.len());
-    let m1 = hash(r, q, Block::read(data, 0), data);
-    let u1 = key.encipher(m1);
+    let r = expanded.encipher(tweak);
+    let q = hash_q(expanded, r, message.len());
+    let m1 = hash(r, q, Block::read(message, 0), message);
+    let u1 = expanded.encipher(m1);
     let xq = field::times_x(q);
-    finish(key, r, xq, m1.xor(u1), u1, data);
+    finish(expanded, r, xq, m1.xor(u1), u1, message);
 }
 
 // Table II, right.
-fn decipher_message(key: ExpandedKey, tweak: Block, data: &mut [u8])
-    requires { ⌜ (16 ≤ length (now «data»)) × (length (now «data») ≤ 4096) ⌝ }
-    ensures { λ _. ⌜ now («data» .exit) ≡ decipher (under key .E) (under key .D) timesX powerSum (value tweak) (now («data» .entry)) ⌝ }
+fn decipher_message(expanded: ExpandedKey, tweak: Block, message: &mut [u8])
+    requires { ⌜ (16 ≤ length (now message)) × (length (now message) ≤ 4096) ⌝ }
+    ensures { λ _. ⌜ now (message .exit) ≡ decipher (under expanded .E) (under expanded .D) timesX powerSum (value tweak) (now (message .entry)) ⌝ }
 {
-    let r = key.encipher(tweak);
-    let q = hash_q(key, r, data.len());
+    let r = expanded.encipher(tweak);
+    let q = hash_q(expanded, r, message.len());
     let xq = field::times_x(q);
-    let u1 = hash(r, xq, Block::read(data, 0), data);
-    let m1 = key.decipher(u1);
-    finish(key, r, q, m1.xor(u1), m1, data);
+    let u1 = hash(r, xq, Block::read(message, 0), message);
+    let m1 = expanded.decipher(u1);
+    finish(expanded, r, q, m1.xor(u1), m1, message);
 }
 
-// Enciphers the data in place, or refuses and leaves it as it is.
-pub fn encipher(key: &[u8], tweak: &[u8], data: &mut [u8]) -> Answer
-    ensures { λ r. ⌜ r ≡ answerOf (now (key .entry)) (now (tweak .entry)) (now («data» .entry)) ⌝ }
-    ensures { λ r. ⌜ now («data» .exit) ≡ leftBy (numberOf r) (enciphered (now (key .entry)) (now (tweak .entry)) (now («data» .entry))) (now («data» .entry)) ⌝ }
+// Enciphers the message in place, or refuses and leaves it as it is.
+pub fn encipher(key: &[u8], tweak: &[u8], message: &mut [u8]) -> Answer
+    ensures { λ r. ⌜ r ≡ answerOf (now (key .entry)) (now (tweak .entry)) (now (message .entry)) ⌝ }
+    ensures { λ r. ⌜ now (message .exit) ≡ leftBy (numberOf r) (enciphered (now (key .entry)) (now (tweak .entry)) (now (message .entry))) (now (message .entry)) ⌝ }
 {
-    let answer = judge(key, tweak, data);
+    let answer = judge(key, tweak, message);
     if let Answer::Done = answer {
-        encipher_message(ExpandedKey::new(key), Block::read(tweak, 0), data);
+        let expansion = ExpandedKey::new(key);
+        let expanded = expansion.expanded;
+        encipher_message(expanded, Block::read(tweak, 0), message);
     }
     answer
 }
 
-// Deciphers the data in place, or refuses and leaves it as it is.
-pub fn decipher(key: &[u8], tweak: &[u8], data: &mut [u8]) -> Answer
-    ensures { λ r. ⌜ r ≡ answerOf (now (key .entry)) (now (tweak .entry)) (now («data» .entry)) ⌝ }
-    ensures { λ r. ⌜ now («data» .exit) ≡ leftBy (numberOf r) (deciphered (now (key .entry)) (now (tweak .entry)) (now («data» .entry))) (now («data» .entry)) ⌝ }
-    ensures { λ r. ⌜ OnePlaintext (numberOf r) (now (key .entry)) (now (tweak .entry)) (now («data» .entry)) (now («data» .exit)) ⌝ }
+// Deciphers the message in place, or refuses and leaves it as it is.
+pub fn decipher(key: &[u8], tweak: &[u8], message: &mut [u8]) -> Answer
+    ensures { λ r. ⌜ r ≡ answerOf (now (key .entry)) (now (tweak .entry)) (now (message .entry)) ⌝ }
+    ensures { λ r. ⌜ now (message .exit) ≡ leftBy (numberOf r) (deciphered (now (key .entry)) (now (tweak .entry)) (now (message .entry))) (now (message .entry)) ⌝ }
+    ensures { λ r. ⌜ OnePlaintext (numberOf r) (now (key .entry)) (now (tweak .entry)) (now (message .entry)) (now (message .exit)) ⌝ }
 {
-    let answer = judge(key, tweak, data);
+    let answer = judge(key, tweak, message);
     if let Answer::Done = answer {
-        decipher_message(ExpandedKey::new(key), Block::read(tweak, 0), data);
+        let expansion = ExpandedKey::new(key);
+        let expanded = expansion.expanded;
+        decipher_message(expanded, Block::read(tweak, 0), message);
     }
     answer
 }

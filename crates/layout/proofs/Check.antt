@@ -1,26 +1,31 @@
 -- The plain block and its check.
 -- Assumes nothing.
-use Prim.Native.Nat.{ℕ, zero, suc, _+_, _-_, _*_, _^_, _≤_, _<_}
+use Prim.Native.Nat.{ℕ, zero, suc, _+_, _-_, _%_, _^_, _≤_}
 use mathlib.Core.Path.{_≡_, refl, sym, ap, _∙_}
-use mathlib.Core.Bool.{Bool, true, false, cond, _&&_, and-assoc}
+use mathlib.Core.Bool.{Bool, true, false, cond, _&&_, false≢true, and-assoc}
 use mathlib.Core.List.{List, _++_, append-assoc}
 use native.Mathlib.Nat.{zero-div, zero-add, mod-eq-of-lt}
 use native.Mathlib.Omega.{arith}
 use borrow.Author.Tests.{le-leb, leb-true, eq-eqb}
 use lib.Dec.{leb}
-use lib.ListN.{length, getD, take, drop, replicate, length-append, length-replicate, length-drop, length-take, take-append-drop}
-use lib.Seq.{drop-cons, drop-drop, drop-at, take-all, take-at, length-take-le}
+use lib.ListN.{length, take, drop, replicate, length-append, length-replicate, length-drop, length-take, take-append-drop}
+use lib.Seq.{drop-drop, drop-at, take-all, take-at, length-take-le}
 use Rattle.strings.specs.Bytes.{Bytes, OfLength, number, bytes, equal}
-use Rattle.strings.specs.Inner.{overwrite}
-use Rattle.strings.proofs.Bytes.{length-bytes, bytes-below, bytes-number, number-bytes, below-append, below-take, below-drop}
-use Rattle.strings.proofs.Place.{overwrite-append, overwrite-whole}
+use Rattle.strings.specs.Inner.{padded, overwrite}
+use Rattle.strings.proofs.Bytes.{length-bytes, bytes-below, bytes-number, number-bytes, below-append, below-take, below-drop, padded-take}
+use Rattle.strings.proofs.Place.{number-fits, overwrite-append, overwrite-whole}
 use Rattle.strings.proofs.Equal.{both, equal-append, equal-refl, equal-true}
-use Rattle.layout.specs.Layout.{check, plainBlock, tweak, used, passes, fits, payloadLength}
+use Rattle.layout.specs.Layout.{check, plainBlock, tweak, used, passes}
+use Rattle.layout.specs.Inner.{fits, verdictOf}
+use Rattle.layout.specs.declared.Verdict.{Verdict}
+use Rattle.layout.specs.declared.Verdict.the-variants.{Passed, Failed}
 
 -- u is two bytes.
-pub used-bytes : (B : List ℕ) → 510 ≤ length B → used B ≡ getD B 508 0 * 256 + getD B 509 0
-unfolding used number
-used-bytes B h = rw (drop-cons B 508 0 (omega arith), drop-cons B 509 0 (omega arith)) (omega arith)
+pub used-bytes : (B : List ℕ) → OfLength 512 B → number (padded 2 (drop 508 B)) % 2 ^ 64 ≡ used B
+unfolding used
+used-bytes B h =
+    let two : 2 ≤ length (drop 508 B) = rw (length-drop, h .0) (omega arith) in
+    rw (padded-take 2 (drop 508 B) two) (mod-eq-of-lt (rw (padded-take 2 (drop 508 B) two) at (number-fits 2 8 508 B (h .1) (omega arith))))
 
 -- The number 0 is zeros.
 zeros : (n : ℕ) → bytes n 0 ≡ replicate n 0
@@ -206,24 +211,31 @@ by-length pack place B h true e =
 pub passes-length : (pack place : ℕ) (B : List ℕ) → (length B ≡ 512 → ⊥) → passes pack place B ≡ false
 passes-length pack place B h = by-length pack place B h (passes pack place B) refl
 
--- What the length that was read tells of the check.
-module _ (pack place : ℕ) (B : List ℕ) (u : ℕ) where
-  by-passed : (t : Bool) → u ≡ cond t (used B) 497 → u ≤ 496 → (t ≡ true) × (u ≡ used B)
-  by-passed true e l = (refl, e)
-  by-passed false e l = absurd (omega (arith, e))
+-- What was read tells of the check.
+abbrev wasPassed : Verdict → Bool
+wasPassed (Passed u) = true
+wasPassed Failed = false
 
-  by-failed : (t : Bool) → passes pack place B ≡ t → u ≡ cond t (used B) 497 → 496 < u → t ≡ false
-  unfolding passes
-  by-failed false p e l = refl
-  by-failed true p e l = absurd (omega (arith, e, leb-true (used B) 496 (both (leb (used B) 496) (equal (drop (used B) B) (check (used B) pack place)) p .0)))
+abbrev lengthOf : Verdict → ℕ
+lengthOf (Passed u) = u
+lengthOf Failed = 0
 
-  pub read-passed : u ≡ payloadLength pack place B → u ≤ 496 → (passes pack place B ≡ true) × (u ≡ used B)
-  unfolding payloadLength
-  read-passed = by-passed (passes pack place B)
+module _ (pack place : ℕ) (B : List ℕ) where
+  by-passed : (u : ℕ) (t : Bool) → Passed u ≡ cond t (Passed (used B)) Failed → (t ≡ true) × (u ≡ used B)
+  by-passed u true e = (refl, ap lengthOf e)
+  by-passed u false e = absurd (false≢true (sym (ap wasPassed e)))
 
-  pub read-failed : u ≡ payloadLength pack place B → 496 < u → passes pack place B ≡ false
-  unfolding payloadLength
-  read-failed = by-failed (passes pack place B) refl
+  by-failed : (t : Bool) → Failed ≡ cond t (Passed (used B)) Failed → t ≡ false
+  by-failed true e = absurd (false≢true (ap wasPassed e))
+  by-failed false e = refl
+
+  pub read-passed : (u : ℕ) → Passed u ≡ verdictOf pack place B → (passes pack place B ≡ true) × (u ≡ used B)
+  unfolding verdictOf
+  read-passed u = by-passed u (passes pack place B)
+
+  pub read-failed : Failed ≡ verdictOf pack place B → passes pack place B ≡ false
+  unfolding verdictOf
+  read-failed = by-failed (passes pack place B)
 
 pub both-fit : (payload block : List ℕ) → length payload ≤ 496 → length block ≡ 512 → fits payload block ≡ true
 unfolding fits

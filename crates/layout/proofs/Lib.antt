@@ -1,3 +1,3 @@
-pub mod Steps
+pub mod Comparison
 pub mod Check
 pub mod Examples

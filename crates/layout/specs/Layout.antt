@@ -1,8 +1,8 @@
 -- The 512-byte block of 01, sentence by sentence. Numbers are big-endian: `bytes n a` is a in n bytes.
 use Prim.Native.Nat.{ℕ, _-_}
-use mathlib.Core.Bool.{Bool, cond, _&&_}
+use mathlib.Core.Bool.{Bool, _&&_}
 use mathlib.Core.List.{List, _++_}
-use lib.Dec.{leb, eqb}
+use lib.Dec.{leb}
 use lib.ListN.{length, take, drop, replicate}
 use Rattle.strings.specs.Bytes.{number, bytes, equal}
 
@@ -39,13 +39,3 @@ payloadOf B = take (used B) B
 -- 01, "compares all of the check with the pack and place that it was given (a u over 496 fails)".
 unfoldable pub passes : (pack place : ℕ) → List ℕ → Bool
 passes pack place B = leb (used B) 496 && equal (drop (used B) B) (check (used B) pack place)
-
--- ---- what the contracts of the code cite
-
--- Whether a payload has at most 496 bytes and a block has 512.
-unfoldable pub fits : (payload block : List ℕ) → Bool
-fits payload block = leb (length payload) 496 && eqb (length block) 512
-
--- u where a block passes its check, and else one more than it can be.
-unfoldable pub payloadLength : (pack place : ℕ) → List ℕ → ℕ
-payloadLength pack place B = cond (passes pack place B) (used B) 497

@@ -6,20 +6,14 @@ ghost use lib.Dec.{eqb};
 ghost use lib.ListN.{length, take, drop};
 ghost use Rattle.strings.specs.Bytes.{bytes, equal};
 ghost use Rattle.strings.specs.Inner.{overwrite};
-ghost use Rattle.layout.specs.Layout.{check, plainBlock, tweak as tweakOf, used as usedOf, passes as passesCheck, fits, payloadLength};
+ghost use Rattle.layout.specs.Layout.{check, plainBlock, tweak as tweakOf, used as usedOf, passes as passesCheck};
+ghost use Rattle.layout.specs.Inner.{fits, verdictOf};
+use strings::number;
 
-// Writes a number in n bytes from place `at` on, its lowest byte last.
-fn put(out: &mut [u8], at: usize, n: usize, value: u64)
-    requires { ⌜ at + n ≤ length (now out) ⌝ }
-    ensures { λ _. ⌜ now (out .exit) ≡ overwrite at (bytes n value) (now (out .entry)) ⌝ }
-{
-    let mut rest = value;
-    let mut i = n;
-    while i > 0 {
-        i -= 1;
-        out[at + i] = (rest % 256) as u8;
-        rest = rest / 256;
-    }
+// What a block is read as: the length of the payload where it passes its check.
+pub enum Verdict {
+    Passed(usize),
+    Failed,
 }
 
 // Compares the n bytes from place `at` on with a number's, all of them: 0 where they are the same.
@@ -38,28 +32,16 @@ fn difference(s: &[u8], at: usize, n: usize, value: u64) -> u8
     differ
 }
 
-// Writes bytes over the front of others.
-fn copy(from: &[u8], to: &mut [u8])
-    requires { ⌜ length (now from) ≤ length (now to) ⌝ }
-    ensures { λ _. ⌜ now (to .exit) ≡ overwrite 0 (now (from .entry)) (now (to .entry)) ⌝ }
-{
-    let mut i = from.len();
-    while i > 0 {
-        i -= 1;
-        to[i] = from[i];
-    }
-}
-
 // Writes the check behind a payload of u bytes.
 fn put_check(u: usize, pack: u64, place: u32, block: &mut [u8])
-    requires { ⌜ (u ≤ 496) × (length (now block) ≡ 512) ⌝ }
+    requires { ⌜ u ≤ 496 ⌝ }
     ensures { λ _. ⌜ now (block .exit) ≡ overwrite u (check u pack place) (now (block .entry)) ⌝ }
 {
-    put(block, u, 496 - u, 0);
-    put(block, 496, 8, pack);
-    put(block, 504, 4, place as u64);
-    put(block, 508, 2, u as u64);
-    put(block, 510, 2, 0);
+    number::put(block, u, 496 - u, 0);
+    number::put(block, 496, 8, pack);
+    number::put(block, 504, 4, place as u64);
+    number::put(block, 508, 2, u as u64);
+    number::put(block, 510, 2, 0);
 }
 
 // Writes the plain block of a payload, or nothing where either has another length.
@@ -72,7 +54,7 @@ pub fn write(payload: &[u8], pack: u64, place: u32, block: &mut [u8])
     if block.len() != 512 {
         return;
     }
-    copy(payload, block);
+    bytes::copy(payload, block);
     put_check(payload.len(), pack, place, block);
 }
 
@@ -81,8 +63,8 @@ pub fn tweak(pack: u64, place: u32) -> [u8; 16]
     ensures { λ r. ⌜ r ≡ tweakOf pack place ⌝ }
 {
     let mut t = [0u8; 16];
-    put(&mut t, 0, 8, pack);
-    put(&mut t, 12, 4, place as u64);
+    number::put(&mut t, 0, 8, pack);
+    number::put(&mut t, 12, 4, place as u64);
     t
 }
 
@@ -91,7 +73,7 @@ fn used(block: &[u8]) -> usize
     requires { ⌜ length (now block) ≡ 512 ⌝ }
     ensures { λ r. ⌜ r ≡ usedOf (now (block .entry)) ⌝ }
 {
-    (block[508] as usize) * 256 + (block[509] as usize)
+    number::get(block, 508, 2) as usize
 }
 
 // Whether a block passes its check.
@@ -110,15 +92,15 @@ fn passes(pack: u64, place: u32, block: &[u8]) -> bool
     (filling_differs | pack_differs | place_differs | zeros_differ) == 0
 }
 
-// The length of the payload where a block passes its check, and 497 where it does not.
-pub fn read(pack: u64, place: u32, block: &[u8]) -> usize
-    ensures { λ r. ⌜ r ≡ payloadLength pack place (now (block .entry)) ⌝ }
+// Whether a block passes its check, and the length of its payload.
+pub fn read(pack: u64, place: u32, block: &[u8]) -> Verdict
+    ensures { λ r. ⌜ r ≡ verdictOf pack place (now (block .entry)) ⌝ }
 {
     if block.len() != 512 {
-        return 497;
+        return Verdict::Failed;
     }
     if passes(pack, place, block) {
-        return used(block);
+        return Verdict::Passed(used(block));
     }
-    497
+    Verdict::Failed
 }

@@ -3,55 +3,67 @@
 use mathlib.Core.Path.{_≡_, refl, sym, ap, _∙_}
 use mathlib.Core.Bool.{Bool, true, false, cond}
 use mathlib.Core.List.{List, [], _∷_, _++_, flatMap, append-nil, append-assoc}
-use Prim.Native.Nat.{ℕ, zero, suc, _+_, _≤_, _<_, min}
+use Prim.Native.Nat.{ℕ, zero, suc, _+_, _-_, _≤_, _<_}
 use native.Mathlib.Omega.{arith}
-use lib.ListN.{length, take, length-append}
-use lib.Seq.{take-length}
-use lib.Dec.{ltb}
-use borrow.Author.Tests.{ltb-true, ltb-false, lt-ltb, le-ltb}
-use Rattle.text.specs.Part.{before, splitFrom, split, appended}
-use Rattle.text.proofs.Parts.{before-all, before-end, split-before, split-end, length-appended, appended-take}
+use lib.ListN.{length, take}
+use lib.Seq.{take-length, take-all}
+use lib.Dec.{leb}
+use borrow.Author.Tests.{leb-true, leb-false, ltb-true, ltb-false}
+use Rattle.strings.proofs.Place.{overwrite-nil, length-overwrite, take-overwrite}
+use Rattle.text.specs.Part.{splitFrom, split}
+use Rattle.text.specs.Inner.{before, lineWith, keptWith}
+use Rattle.text.specs.declared.part.Kept.{Kept}
+use Rattle.text.specs.declared.part.Kept.the-variants.{Characters, TooLong}
+use Rattle.text.proofs.Parts.{before-all, before-end, split-before, split-end, bytes-twice, kept-twice}
 use Rattle.line.specs.Line.{answer}
-use Rattle.line.specs.Input.{linesOf, endedOf, answers, answersSoFar, endsIn, usedBy, keptLine, keptCount, countAfter, keptAnswer, answerAfter, lastAnswer}
+use Rattle.line.specs.Input.{linesOf, endedOf, answers, answersSoFar, lastAnswer}
 use Rattle.line.specs.Input.{Run, begin, call}
+use Rattle.line.specs.Inner.{endsIn, usedBy, keptLine, keptOf, keptAfter, keptAnswer, answerAfter}
 use Rattle.line.proofs.Requests.{answer-long}
 use Rattle.line.proofs.Written.{written-bytes}
 
--- ---- a line u, of any length, as it is kept
+-- ---- a line u, of any length, as it is kept: as if it had been appended all at once, where `first` stood when it began
 
-record Held (u line : List ℕ) (count : ℕ) : Type 0 where
-  room : length line ≡ 8300
-  counted : count ≡ min (length u) 8301
-  front : length u ≤ 8300 → take (length u) line ≡ u
+record Held (u line : List ℕ) (kept : Kept) : Type 0 where
+  first : List ℕ
+  room : length first ≡ 8300
+  characters : line ≡ lineWith first (Characters 0) u
+  counted : kept ≡ keptWith first (Characters 0) u
 
-held-none : (line : List ℕ) → length line ≡ 8300 → Held [] line 0
-held-none line h = record { room = h; counted = omega arith; front = λ l. refl }
+held-none : (line : List ℕ) → length line ≡ 8300 → Held [] line (Characters 0)
+unfolding lineWith keptWith
+held-none line h = record { first = line; room = h; characters = sym (overwrite-nil 0 line); counted = rw h }
 
-held-more : {u line : List ℕ} {count : ℕ} (p : List ℕ) → Held u line count
-    → Held (u ++ p) (appended line count p) (min (count + length p) (length line + 1))
-held-more {u} {line} {count} p h =
-    let both = length-append u p in
-    record {
-      room = length-appended line count p ∙ h .room;
-      counted = omega arith;
-      front = λ l.
-          let same : count ≡ length u = omega arith in
-          rw (both, same, appended-take line (length u) p (omega arith), h .front (omega arith));
-    }
+held-more : {u line : List ℕ} {kept : Kept} (p : List ℕ) → Held u line kept → Held (u ++ p) (lineWith line kept p) (keptWith line kept p)
+held-more {u} p h = record {
+  first = h .first;
+  room = h .room;
+  characters = rw (h .characters, h .counted) (bytes-twice (h .first) (Characters 0) u p);
+  counted = rw (h .characters, h .counted) (kept-twice (h .first) (Characters 0) u p);
+}
+
+held-room : {u line : List ℕ} {kept : Kept} → Held u line kept → length line ≡ 8300
+unfolding lineWith
+held-room {u} h = rw (h .characters, length-overwrite 0 u (h .first)) (h .room)
 
 -- What is kept answers as the whole line does: a line that has no room is longer than any that is understood.
-held-answer : {u line : List ℕ} {count : ℕ} → Held u line count → keptAnswer line count ≡ answer u
-unfolding keptAnswer
-held-answer {u} {line} {count} h = by (ltb 8300 (length u)) refl
+held-answer : {u line : List ℕ} {kept : Kept} → Held u line kept → keptAnswer line kept ≡ answer u
+unfolding keptAnswer lineWith keptWith
+held-answer {u} h = rw (h .characters, h .counted) (by (leb (0 + length u) (length (h .first))) refl)
   where
-    by : (t : Bool) → ltb 8300 (length u) ≡ t → keptAnswer line count ≡ answer u
+    by : (t : Bool) → leb (0 + length u) (length (h .first)) ≡ t
+        → keptAnswer (lineWith (h .first) (Characters 0) u) (cond t (Characters (0 + length u)) TooLong) ≡ answer u
     by true e =
-        let l : 8300 < length u = ltb-true _ _ e in
-        rw (lt-ltb (length line) count (omega arith), answer-long u l)
+        let fits : 0 + length u ≤ length (h .first) = leb-true _ _ e in
+        rw (
+          length-overwrite 0 u (h .first),
+          e,
+          take-overwrite 0 u (h .first),
+          take-all (length (h .first) - 0) u (omega arith),
+        )
     by false e =
-        let l : length u ≤ 8300 = ltb-false _ _ e in
-        let same : count ≡ length u = omega arith in
-        rw (le-ltb (length line) count (omega arith), same, h .front l)
+        let long : length (h .first) < 0 + length u = leb-false _ _ e in
+        sym (answer-long u (omega (arith, h .room)))
 
 -- ---- the parts of an input: all but the last have ended
 
@@ -76,21 +88,21 @@ answers-append (u ∷ done) more = rw (answers-append done more) (sym (append-as
 -- ---- a run of calls
 
 -- The lines that have ended and the characters of the line under way. What follows in the input, z, goes on from there.
-record Kept (input written line : List ℕ) (count : ℕ) : Type 0 where
+record SoFar (input written line : List ℕ) (kept : Kept) : Type 0 where
   done : List (List ℕ)
   under : List ℕ
   parts : (z : List ℕ) → split 10 (input ++ z) ≡ done ++ splitFrom 10 under z
   told : written ≡ flatMap answer done
-  held : Held under line count
+  held : Held under line kept
 
 -- One call, by the test whether the line ends in the chunk, its value t.
-step : (t : Bool) {input written line : List ℕ} {count : ℕ} (rest : List ℕ) → endsIn rest ≡ t → Kept input written line count
-    → let line′ = keptLine line count rest in
-    let count′ = keptCount line count rest in
+step : (t : Bool) {input written line : List ℕ} {kept : Kept} (rest : List ℕ) → endsIn rest ≡ t → SoFar input written line kept
+    → let line′ = keptLine line kept rest in
+    let kept′ = keptOf line kept rest in
     let used = take (cond t (suc (length (before 10 rest))) (length rest)) rest in
-    Kept (input ++ used) (written ++ cond t (keptAnswer line′ count′) []) line′ (cond t 0 count′)
-unfolding endsIn keptLine keptCount flatMap
-step true {input} {written} {line} {count} rest e k =
+    SoFar (input ++ used) (written ++ cond t (keptAnswer line′ kept′) []) line′ (cond t (Characters 0) kept′)
+unfolding endsIn keptLine keptOf flatMap
+step true {input} rest e k =
     let p : List ℕ = before 10 rest in
     let whole : List ℕ = k .under ++ p in
     let used : take (suc (length p)) rest ≡ p ++ 10 ∷ [] = before-end 10 rest (ltb-true _ _ e) in
@@ -102,9 +114,9 @@ step true {input} {written} {line} {count} rest e k =
           rw (used, append-assoc input, append-assoc p, k .parts (p ++ 10 ∷ z), split-before 10 (k .under) rest (10 ∷ z), split-end 10 whole z)
           (sym (append-assoc (k .done) (whole ∷ []) (splitFrom 10 [] z)));
       told = rw (k .told, held-answer now, answers-append (k .done) (whole ∷ []), append-nil (answer whole));
-      held = held-none (appended line count p) (now .room);
+      held = held-none _ (held-room now);
     }
-step false {input} {written} {line} {count} rest e k =
+step false {input} {written} rest e k =
     let p : List ℕ = before 10 rest in
     let used : take (length rest) rest ≡ p = take-length rest ∙ sym (before-all 10 rest (ltb-false _ _ e)) in
     record {
@@ -115,32 +127,49 @@ step false {input} {written} {line} {count} rest e k =
       held = held-more p (k .held);
     }
 
-kept : {line₀ input written line : List ℕ} {count : ℕ} → length line₀ ≡ 8300 → Run line₀ input written line count → Kept input written line count
-unfolding usedBy countAfter answerAfter flatMap
-kept {line₀} h begin = record { done = []; under = []; parts = λ z. refl; told = refl; held = held-none line₀ h }
-kept h (call {rest = rest} r s) = rw (s .used, s .counted, s .kept, written-bytes (s .answered)) (step (endsIn rest) rest refl (kept h r))
+-- One call, as its contract has it.
+one-call : {input written line : List ℕ} {kept : Kept} (rest : List ℕ) → SoFar input written line kept
+    → SoFar (input ++ take (usedBy rest) rest) (written ++ answerAfter line kept rest) (keptLine line kept rest) (keptAfter line kept rest)
+unfolding usedBy keptAfter answerAfter
+one-call rest k = step (endsIn rest) rest refl k
+
+so-far-as : {input input′ written written′ line line′ : List ℕ} {kept kept′ : Kept} → input′ ≡ input → written′ ≡ written → line′ ≡ line → kept′ ≡ kept
+    → SoFar input written line kept → SoFar input′ written′ line′ kept′
+so-far-as e f g h k = rw (e, f, g, h) k
+
+so-far : {line₀ input written line : List ℕ} {kept : Kept} → length line₀ ≡ 8300 → Run line₀ input written line kept → SoFar input written line kept
+unfolding flatMap
+so-far {line₀} h begin = record { done = []; under = []; parts = λ z. refl; told = refl; held = held-none line₀ h }
+so-far h (call {input} {written} {rest = rest} r s) =
+    so-far-as (ap (λ (n : ℕ). input ++ take n rest) (s .used)) (ap (λ (u : List ℕ). written ++ u) (written-bytes (s .answered))) (s .collected) (s .keeps)
+    (one-call rest (so-far h r))
 
 -- nothing follows
-at-end : {input written line : List ℕ} {count : ℕ} (k : Kept input written line count) → split 10 input ≡ k .done ++ k .under ∷ []
+at-end : {input written line : List ℕ} {kept : Kept} (k : SoFar input written line kept) → split 10 input ≡ k .done ++ k .under ∷ []
 unfolding splitFrom
 at-end {input} k = rw (append-nil input) at (k .parts [])
 
 -- The last line is answered unless it has no character: then a line feed was the last, or there was no input.
-pub last-some : (line : List ℕ) (count : ℕ) → (count ≡ 0 → ⊥) → lastAnswer line count ≡ keptAnswer line count
+pub last-some : (line : List ℕ) (n : ℕ) → (n ≡ 0 → ⊥) → lastAnswer line (Characters n) ≡ keptAnswer line (Characters n)
 unfolding lastAnswer
-last-some line zero n = absurd (n refl)
-last-some line (suc count) n = refl
+last-some line zero e = absurd (e refl)
+last-some line (suc n) e = refl
 
-last-answer : (u : List ℕ) {line : List ℕ} {count : ℕ} → Held u line count → lastAnswer line count ≡ flatMap answer (linesOf (u ∷ []))
-unfolding flatMap linesOf lastAnswer
-last-answer [] h = rw (h .counted)
-last-answer (x ∷ xs) {line} {count} h = rw (last-some line count (λ z. omega (arith, h .counted)), held-answer h, append-nil)
+last-answer : (u : List ℕ) {line : List ℕ} {kept : Kept} → Held u line kept → lastAnswer line kept ≡ flatMap answer (linesOf (u ∷ []))
+unfolding flatMap linesOf lastAnswer keptWith
+last-answer [] h = rw (h .counted, h .room)
+last-answer (x ∷ xs) {line} h =
+    rw (append-nil, ← held-answer h, h .counted) (by (leb (0 + length (x ∷ xs)) (length (h .first))))
+  where
+    by : (t : Bool) → let kept = cond t (Characters (0 + length (x ∷ xs))) TooLong in lastAnswer line kept ≡ keptAnswer line kept
+    by true = last-some line (0 + length (x ∷ xs)) (λ e. omega arith)
+    by false = refl
 
-pub in-chunks : {line₀ input written line : List ℕ} {count : ℕ} → length line₀ ≡ 8300 → Run line₀ input written line count
-    → (written ≡ answersSoFar input) × (written ++ lastAnswer line count ≡ answers input)
+pub in-chunks : {line₀ input written line : List ℕ} {kept : Kept} → length line₀ ≡ 8300 → Run line₀ input written line kept
+    → (written ≡ answersSoFar input) × (written ++ lastAnswer line kept ≡ answers input)
 unfolding answersSoFar answers
 in-chunks h r =
-    let k = kept h r in (
+    let k = so-far h r in (
       rw (at-end k, ended-all (k .done) (k .under)) (k .told),
       rw (at-end k, lines-all (k .done) (k .under), answers-append (k .done), ← last-answer (k .under) (k .held), ← k .told),
     )

@@ -10,8 +10,9 @@ use native.Mathlib.Omega.{arith}
 use lib.ListN.{length, take, drop, getD}
 use lib.Dec.{ltb, eqb}
 use borrow.Author.Tests.{ltb-true, ltb-false, eqb-true, lt-leb, le-leb, eq-eqb, ne-eqb}
-use Rattle.text.specs.Hex.{isDigit, hex, isHex, unhex, fieldOf, decodedOf, leftBy}
-use Rattle.text.specs.Part.{before, splitFrom, split}
+use Rattle.text.specs.Hex.{isDigit, hex, isHex, unhex}
+use Rattle.text.specs.Part.{splitFrom, split}
+use Rattle.text.specs.Inner.{before, fieldOf, decodedOf, decodedIn}
 use Rattle.text.specs.declared.hex.Decoded.{Decoded}
 use Rattle.text.specs.declared.hex.Decoded.the-variants.{Bytes, Refused}
 use Rattle.text.proofs.Digits.{even-digits, split-digits, hex-unhex, unhex-hex, isHex-hex, decoded-is, decoded-not, decoded-whole, field-is, field-not}
@@ -68,8 +69,8 @@ follows s = by (ltb (length (before 32 s)) (length s)) refl
     by false e = inr (ltb-false _ _ e)
 
 -- the decoded bytes, as they are lent on
-lent : (f out left : List ℕ) (a : Decoded) (n : ℕ) → a ≡ Bytes n → n ≡ length f / 2 → left ≡ leftBy a f out → take (n - 0) left ≡ unhex f
-unfolding leftBy
+lent : (f out left : List ℕ) (a : Decoded) (n : ℕ) → a ≡ Bytes n → n ≡ length f / 2 → left ≡ decodedIn a f out → take (n - 0) left ≡ unhex f
+unfolding decodedIn
 lent f out left a n told e l =
     let n-0 : n - 0 ≡ length f / 2 = omega arith in
     rw (n-0, l, told, e) (decoded-whole f out)
@@ -83,7 +84,7 @@ field-refused c ps s out l e room =
     (λ h. rw (split-none 32 [] s h) (few c ps s l)) (follows s)
 
 -- Its bytes, and what stands behind its space, as both are lent on: their digits are the field again.
-pub field-read : (s out left : List ℕ) (a : Decoded) (n : ℕ) → a ≡ fieldOf 32 s out → a ≡ Bytes n → left ≡ leftBy a (before 32 s) out
+pub field-read : (s out left : List ℕ) (a : Decoded) (n : ℕ) → a ≡ fieldOf 32 s out → a ≡ Bytes n → left ≡ decodedIn a (before 32 s) out
     → split 32 s ≡ hex (take (n - 0) left) ∷ split 32 (take (length s - (2 * n + 1)) (drop (2 * n + 1) s))
 field-read s out left a n e told l =
     let f = field-is 32 s out n (sym e ∙ told) in
@@ -91,10 +92,10 @@ field-read s out left a n e told l =
     let behind : suc (length (before 32 s)) ≡ 2 * n + 1 = omega arith in
     rw (lent (before 32 s) out left a n told half l, part-behind (2 * n + 1) s, hex-unhex (before 32 s) (f .0), ← behind) (split-first 32 [] s (omega arith))
 
--- ---- the data, behind which nothing stands
+-- ---- the message, behind which nothing stands
 
-pub data-refused : (c : List ℕ) (a b s out : List ℕ) → decodedOf s out ≡ Refused → length s / 2 ≤ length out → requested (c ∷ a ∷ b ∷ split 32 s) ≡ Unknown
-data-refused c a b s out e room =
+pub message-refused : (c : List ℕ) (a b s out : List ℕ) → decodedOf s out ≡ Refused → length s / 2 ≤ length out → requested (c ∷ a ∷ b ∷ split 32 s) ≡ Unknown
+message-refused c a b s out e room =
     ⊎-elim (λ h. rw (split-first 32 [] s h) (many c a b _ _ (parts 32 [] _)))
     (λ h. rw (split-none 32 [] s h) (not-hex c (a ∷ b ∷ []) [] s (decoded-not s out e room))) (follows s)
 
@@ -102,11 +103,11 @@ space : isDigit 32 ≡ false
 unfolding isDigit
 space = refl
 
-pub data-read : (c : List ℕ) (key tweak s out left : List ℕ) (a : Decoded) (n : ℕ) → ((i : ℕ) → getD key i 0 < 256) → ((i : ℕ) → getD tweak i 0 < 256)
-    → a ≡ decodedOf s out → a ≡ Bytes n → left ≡ leftBy a s out
+pub message-read : (c : List ℕ) (key tweak s out left : List ℕ) (a : Decoded) (n : ℕ) → ((i : ℕ) → getD key i 0 < 256) → ((i : ℕ) → getD tweak i 0 < 256)
+    → a ≡ decodedOf s out → a ≡ Bytes n → left ≡ decodedIn a s out
     → requested (c ∷ hex key ∷ hex tweak ∷ split 32 s) ≡ commanded c key tweak (take (n - 0) left)
 unfolding requested
-data-read c key tweak s out left a n k t e told l =
+message-read c key tweak s out left a n k t e told l =
     let d = decoded-is s out n (sym e ∙ told) in
     rw (split-digits 32 s space (even-digits s (d .0) .1), isHex-hex key k, isHex-hex tweak t, d .0, unhex-hex key k, unhex-hex tweak t, lent s out left a n told (d .1) l) refl
 

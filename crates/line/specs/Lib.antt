@@ -1,3 +1,4 @@
 pub mod Line
+pub mod Inner
 pub mod Input
 pub mod Theorems

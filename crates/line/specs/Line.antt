@@ -9,7 +9,8 @@ use Rattle.io.specs.Digits.{digits}
 use Rattle.text.specs.Hex.{hex, isHex, unhex}
 use Rattle.text.specs.Part.{split}
 use Rattle.hch.specs.Hch.{enciphered, deciphered}
-use Rattle.hch.specs.Call.{numberOf, answerOf}
+use Rattle.strings.specs.Call.{numberOf}
+use Rattle.hch.specs.Call.{answerOf}
 
 -- What a line asks for.
 pub data Request : Type 0 where
@@ -39,7 +40,7 @@ requestOf line = cond (leb (length line) 8300) (requested (split 32 line)) Unkno
 
 -- A number below 100 in decimal.
 unfoldable pub decimal : ℕ → List ℕ
-decimal n = cond (ltb n 10) (digits 10 1 n) (digits 10 2 n)
+decimal n = digits 10 (cond (ltb n 10) 1 2) n
 
 -- "`no `, the number in decimal, and a line feed".
 unfoldable pub refusal : ℕ → List ℕ

@@ -54,32 +54,33 @@ fn read_tweak(command: u8, key: &[u8], fields: &[u8], out: &mut [u8; ROOM]) -> u
     let Decoded::Bytes(n) = text::hex::decode_field(fields, b' ', &mut tweak) else {
         return refuse(UNKNOWN, out);
     };
-    read_data(command, key, &tweak[0..n], &fields[2 * n + 1..], out)
+    read_message(command, key, &tweak[0..n], &fields[2 * n + 1..], out)
 }
 
-// Reads the data, which ends with the line: a space is no digit, so a fourth field is refused here.
-fn read_data(command: u8, key: &[u8], tweak: &[u8], digits: &[u8], out: &mut [u8; ROOM]) -> usize
+// Reads the message, which ends with the line: a space is no digit, so a fourth field is refused
+// here.
+fn read_message(command: u8, key: &[u8], tweak: &[u8], digits: &[u8], out: &mut [u8; ROOM]) -> usize
     requires { ⌜ length (now digits) ≤ 8300 ⌝ }
     ensures { λ r. ⌜ Written (replyTo (requested ((command ∷ []) ∷ hex (now (key .entry)) ∷ hex (now (tweak .entry)) ∷ split 32 (now (digits .entry))))) r (now (out .entry)) (now (out .exit)) ⌝ }
 {
-    let mut data = [0u8; BYTES];
-    let Decoded::Bytes(n) = text::hex::decode(digits, &mut data) else {
+    let mut message = [0u8; BYTES];
+    let Decoded::Bytes(n) = text::hex::decode(digits, &mut message) else {
         return refuse(UNKNOWN, out);
     };
-    run(command, key, tweak, &mut data[0..n], out)
+    run(command, key, tweak, &mut message[0..n], out)
 }
 
-// Enciphers or deciphers the data, and answers what the call answered.
-fn run(command: u8, key: &[u8], tweak: &[u8], data: &mut [u8], out: &mut [u8; ROOM]) -> usize
-    ensures { λ r. ⌜ Written (replyTo (commanded (command ∷ []) (now (key .entry)) (now (tweak .entry)) (now («data» .entry)))) r (now (out .entry)) (now (out .exit)) ⌝ }
+// Enciphers or deciphers the message, and answers what the call answered.
+fn run(command: u8, key: &[u8], tweak: &[u8], message: &mut [u8], out: &mut [u8; ROOM]) -> usize
+    ensures { λ r. ⌜ Written (replyTo (commanded (command ∷ []) (now (key .entry)) (now (tweak .entry)) (now (message .entry)))) r (now (out .entry)) (now (out .exit)) ⌝ }
 {
     if command == b'E' {
-        let answer = hch::encipher(key, tweak, data);
-        return reply(answer.number(), data, out);
+        let answer = hch::encipher(key, tweak, message);
+        return reply(answer.number(), message, out);
     }
     if command == b'D' {
-        let answer = hch::decipher(key, tweak, data);
-        return reply(answer.number(), data, out);
+        let answer = hch::decipher(key, tweak, message);
+        return reply(answer.number(), message, out);
     }
     refuse(UNKNOWN, out)
 }
@@ -93,8 +94,9 @@ fn reply(number: u32, left: &[u8], out: &mut [u8; ROOM]) -> usize
     if number > 0 {
         return refuse(number, out);
     }
-    let digits = text::hex::encode(left, out);
-    text::part::append(out, digits, b"\n")
+    let n = text::hex::encode(left, out);
+    strings::places::write(out, n, b"\n");
+    n + 1
 }
 
 // Writes `no `, the number in decimal and a line feed.
@@ -104,7 +106,8 @@ pub(crate) fn refuse(number: u32, out: &mut [u8; ROOM]) -> usize
 {
     let mut digits = [0u8; 20];
     let k = io::decimal(number as u64, &mut digits);
-    let n = text::part::append(out, 0, b"no ");
-    let n = text::part::append(out, n, &digits[..k]);
-    text::part::append(out, n, b"\n")
+    strings::places::write(out, 0, b"no ");
+    strings::places::write(out, 3, &digits[..k]);
+    strings::places::write(out, 3 + k, b"\n");
+    4 + k
 }

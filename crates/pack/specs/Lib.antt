@@ -1,3 +1,4 @@
 pub mod Sealing
 pub mod Opening
+pub mod Inner
 pub mod Theorems

@@ -1,48 +1,52 @@
--- Opening: what it answers, and what that means.
+-- Opening by a scheme S: what it answers, and what that means.
 use Prim.Native.Nat.{ℕ, _≤_}
 use mathlib.Core.Path.{_≡_}
-use mathlib.Core.Bool.{Bool, cond, not, _&&_}
+use mathlib.Core.Bool.{Bool, true, not, _&&_}
 use mathlib.Core.List.{List, [], _∷_}
 use lib.Dec.{ltb, eqb}
 use lib.ListN.{length, take}
 use Rattle.strings.specs.Bytes.{Bytes, equal}
+use Rattle.strings.specs.Cipher.{Scheme}
 use Rattle.strings.specs.One.{OneString}
-use Rattle.strings.specs.Call.{leftBy}
+use Rattle.strings.specs.Call.{refusalNumber, Tests, looksAt, leftBy}
+use Rattle.strings.specs.declared.refusal.Answer.{Answer}
+use Rattle.strings.specs.declared.refusal.Answer.the-variants.{Done as NoTestHolds, Refused as FirstIs}
+use Rattle.strings.specs.declared.refusal.Refusal.the-variants.{KeyLength, PlaceTooHigh, BlockLength, CheckFailed}
 use Rattle.layout.specs.Layout.{tweak, used, payloadOf, passes}
 use Rattle.pack.specs.Sealing.{seal}
 use Rattle.pack.specs.declared.opening.Opened.{Opened}
-use Rattle.pack.specs.declared.opening.Opened.the-variants.{Done, KeyLength, BlockLength, PlaceTooHigh, CheckFailed}
+use Rattle.pack.specs.declared.opening.Opened.the-variants.{Done, Refused}
 
--- 01, "Numbers for a call that was not done"; a call that was done has 0.
+-- 01's number, 0 for a call that was done, and what a call returns beside it: u where the block was opened; a refusal returns its number alone.
 abbrev pub numberOf : Opened → ℕ
 numberOf (Done u) = 0
-numberOf KeyLength = 1
-numberOf BlockLength = 7
-numberOf PlaceTooHigh = 6
-numberOf CheckFailed = 8
+numberOf (Refused why) = refusalNumber why
 
--- What a call returns beside its number: u where the block was opened; a refusal returns its number alone.
 abbrev pub valuesOf : Opened → List ℕ
 valuesOf (Done u) = u ∷ []
-valuesOf KeyLength = []
-valuesOf BlockLength = []
-valuesOf PlaceTooHigh = []
-valuesOf CheckFailed = []
+valuesOf (Refused why) = []
 
--- D deciphers under a key and a tweak.
-module _ (D : List ℕ → List ℕ → List ℕ → List ℕ) where
+-- The answer by the tests, with u where none of them holds.
+abbrev pub returning : ℕ → Answer → Opened
+returning u NoTestHolds = Done u
+returning u (FirstIs why) = Refused why
+
+module _ (S : Scheme) where
   -- The lent block C deciphered: a plain block, where it passes its check.
   unfoldable pub decipheredBlock : (key : List ℕ) (pack place : ℕ) (C : List ℕ) → List ℕ
-  decipheredBlock key pack place C = D key (tweak pack place) C
+  decipheredBlock key pack place C = S .decipher key (tweak pack place) C
 
   -- 01, "Opening looks at 1, 7, 6, 8".
-  unfoldable pub answerOf : (key : List ℕ) (pack place : ℕ) (C : List ℕ) → Opened
-  answerOf key pack place C =
-      let B = decipheredBlock key pack place C in
-      cond (not (eqb (length key) 16)) KeyLength
-      (cond (not (eqb (length C) 512)) BlockLength
-      (cond (ltb 65535 place) PlaceTooHigh
-      (cond (not (passes pack place B)) CheckFailed (Done (used B)))))
+  unfoldable pub tests : (key : List ℕ) (pack place : ℕ) (C : List ℕ) → Tests
+  tests key pack place C =
+      (not (S .isKey key), KeyLength)
+      ∷ (not (eqb (length C) 512), BlockLength)
+      ∷ (ltb 65535 place, PlaceTooHigh)
+      ∷ (not (passes pack place (decipheredBlock key pack place C)), CheckFailed)
+      ∷ []
+
+  abbrev pub answerOf : (key : List ℕ) (pack place : ℕ) (C : List ℕ) → Opened
+  answerOf key pack place C = returning (used (decipheredBlock key pack place C)) (looksAt (tests key pack place C))
 
   -- 01, "A block opens to a payload, pack and place, under a key, when opening it with that key, pack and place is not refused, returns the
   -- payload's length as u and leaves the payload from byte 0 on".
@@ -56,18 +60,20 @@ module _ (D : List ℕ → List ℕ → List ℕ → List ℕ) where
   abbrev pub OneBlock : (key payload : List ℕ) (pack place : ℕ) (C : List ℕ) → Type 0
   OneBlock key payload pack place C = OneString 512 (opensTo key payload pack place) C
 
-module _ (E : List ℕ → List ℕ → List ℕ → List ℕ) where
   -- 01, "no payload of 0 to 496 bytes seals to these 512 bytes".
   abbrev pub NoPayload : (key : List ℕ) (pack place : ℕ) (C : List ℕ) → Type 0
-  NoPayload key pack place C = (payload : List ℕ) → Bytes payload → length payload ≤ 496 → seal E key payload pack place ≡ C → ⊥
+  NoPayload key pack place C = (payload : List ℕ) → Bytes payload → length payload ≤ 496 → seal S key payload pack place ≡ C → ⊥
 
--- What a number means when C was to be opened and B is left.
-pub record Meaning (E D : List ℕ → List ℕ → List ℕ → List ℕ) (number : ℕ) (key : List ℕ) (pack place : ℕ) (C B : List ℕ) : Type 0 where
-  -- Where C was opened, the payload that is left has at most 496 bytes, it seals to C, and no other block opens to it.
-  pub used-limit : number ≡ 0 → used B ≤ 496
-  pub sealed : number ≡ 0 → seal E key (payloadOf B) pack place ≡ C
-  pub one-block : number ≡ 0 → OneBlock D key (payloadOf B) pack place C
   -- 01, "Where 1, 7 and 6 do not apply, number 8 is returned exactly if no payload of 0 to 496 bytes seals to these 512 bytes under this key,
   -- pack and place".
-  pub eight : length key ≡ 16 → length C ≡ 512 → place ≤ 65535
-      → (number ≡ 8 → NoPayload E key pack place C) × (NoPayload E key pack place C → number ≡ 8)
+  abbrev pub Eight : (number : ℕ) (key : List ℕ) (pack place : ℕ) (C : List ℕ) → Type 0
+  Eight number key pack place C = S .isKey key ≡ true → length C ≡ 512 → place ≤ 65535
+      → (number ≡ 8 → NoPayload key pack place C) × (NoPayload key pack place C → number ≡ 8)
+
+  -- What a number means when C was to be opened and B is left.
+  pub record Meaning (number : ℕ) (key : List ℕ) (pack place : ℕ) (C B : List ℕ) : Type 0 where
+    -- Where C was opened, the payload that is left has at most 496 bytes, it seals to C, and no other block opens to it.
+    pub used-limit : number ≡ 0 → used B ≤ 496
+    pub sealed : number ≡ 0 → seal S key (payloadOf B) pack place ≡ C
+    pub one-block : number ≡ 0 → OneBlock key (payloadOf B) pack place C
+    pub eight : Eight number key pack place C

@@ -5,5 +5,4 @@ mod sealing;
 
 pub use opening::Opened;
 pub use opening::open;
-pub use sealing::Sealed;
 pub use sealing::seal;

@@ -1,17 +1,20 @@
 // Opening a sealed block as that of a pack and a place.
+ghost use Prim.Native.Nat.{ℕ};
 ghost use mathlib.Core.Path.{_≡_};
-ghost use Rattle.strings.specs.Call.{leftBy};
-ghost use Rattle.hch.specs.Hch.{enciphered, deciphered};
-ghost use Rattle.pack.specs.Opening.{numberOf, decipheredBlock, answerOf, Meaning};
+ghost use lib.ListN.{take};
+ghost use Rattle.strings.specs.Call.{looksAt, leftBy};
+ghost use Rattle.hch.specs.Hch.{hch as scheme};
+ghost use Rattle.pack.specs.Opening.{numberOf, decipheredBlock, tests, answerOf, Meaning};
+ghost use Rattle.pack.specs.Inner.{Openable};
 use crate::cipher;
+use layout::Verdict;
+use strings::refusal::Answer;
+use strings::refusal::Refusal;
 
 // What opening answers: the length of the payload, or why the block was not opened.
 pub enum Opened {
     Done(usize),
-    KeyLength,
-    BlockLength,
-    PlaceTooHigh,
-    CheckFailed,
+    Refused(Refusal),
 }
 
 impl Opened {
@@ -21,35 +24,46 @@ impl Opened {
     {
         match self {
             Opened::Done(_) => 0,
-            Opened::KeyLength => 1,
-            Opened::BlockLength => 7,
-            Opened::PlaceTooHigh => 6,
-            Opened::CheckFailed => 8,
+            Opened::Refused(why) => why.number(),
         }
     }
 }
 
-// Opens the lent block as that of a pack and a place, or refuses and leaves it as it is. What fails its check is enciphered again, which gives
-// the lent bytes back.
-pub fn open(key: &[u8], pack: u64, place: u32, block: &mut [u8]) -> Opened
-    ensures { λ r. ⌜ r ≡ answerOf deciphered (now (key .entry)) pack place (now (block .entry)) ⌝ }
-    ensures { λ r. ⌜ now (block .exit) ≡ leftBy (numberOf r) (decipheredBlock deciphered (now (key .entry)) pack place (now (block .entry))) (now (block .entry)) ⌝ }
-    ensures { λ r. ⌜ Meaning enciphered deciphered (numberOf r) (now (key .entry)) pack place (now (block .entry)) (now (block .exit)) ⌝ }
+// What opening looks at before it deciphers, in 01's order.
+fn judge(key: &[u8], place: u32, block: &[u8]) -> Answer
+    ensures { λ r. ⌜ ((pack : ℕ) → r ≡ looksAt (take 3 (tests scheme (now (key .entry)) pack place (now (block .entry))))) ⌝ }
 {
-    if key.len() != 16 {
-        return Opened::KeyLength;
-    }
-    if block.len() != 512 {
-        return Opened::BlockLength;
-    }
-    if place > 65535 {
-        return Opened::PlaceTooHigh;
-    }
+    let valid = hch::is_key(key);
+    Answer::Done
+        .refuse_if(!valid, Refusal::KeyLength)
+        .refuse_if(block.len() != 512, Refusal::BlockLength)
+        .refuse_if(place > 65535, Refusal::PlaceTooHigh)
+}
+
+// Opens a block that the first tests pass. What fails its check is enciphered again, which gives the lent bytes back.
+fn open_block(key: &[u8], pack: u64, place: u32, block: &mut [u8]) -> Opened
+    requires { ⌜ Openable scheme (now key) place (now block) ⌝ }
+    ensures { λ r. ⌜ r ≡ answerOf scheme (now (key .entry)) pack place (now (block .entry)) ⌝ }
+    ensures { λ r. ⌜ now (block .exit) ≡ leftBy (numberOf r) (decipheredBlock scheme (now (key .entry)) pack place (now (block .entry))) (now (block .entry)) ⌝ }
+{
     cipher::decipher(key, pack, place, block);
-    let u = layout::read(pack, place, block);
-    if u <= 496 {
-        return Opened::Done(u);
+    let verdict = layout::read(pack, place, block);
+    let Verdict::Passed(u) = verdict else {
+        cipher::encipher(key, pack, place, block);
+        return Opened::Refused(Refusal::CheckFailed);
+    };
+    Opened::Done(u)
+}
+
+// Opens the lent block as that of a pack and a place, or refuses and leaves it as it is.
+pub fn open(key: &[u8], pack: u64, place: u32, block: &mut [u8]) -> Opened
+    ensures { λ r. ⌜ r ≡ answerOf scheme (now (key .entry)) pack place (now (block .entry)) ⌝ }
+    ensures { λ r. ⌜ now (block .exit) ≡ leftBy (numberOf r) (decipheredBlock scheme (now (key .entry)) pack place (now (block .entry))) (now (block .entry)) ⌝ }
+    ensures { λ r. ⌜ Meaning scheme (numberOf r) (now (key .entry)) pack place (now (block .entry)) (now (block .exit)) ⌝ }
+{
+    let answer = judge(key, place, block);
+    if let Answer::Refused(why) = answer {
+        return Opened::Refused(why);
     }
-    cipher::encipher(key, pack, place, block);
-    Opened::CheckFailed
+    open_block(key, pack, place, block)
 }

@@ -1,54 +1,35 @@
 // Sealing a payload for a pack and a place.
 ghost use mathlib.Core.Path.{_≡_};
-ghost use Rattle.strings.specs.Call.{leftBy};
-ghost use Rattle.hch.specs.Hch.{enciphered, deciphered};
-ghost use Rattle.pack.specs.Sealing.{seal as sealedBy, numberOf, answerOf};
+ghost use Rattle.strings.specs.Call.{numberOf, leftBy};
+ghost use Rattle.hch.specs.Hch.{hch as scheme};
+ghost use Rattle.pack.specs.Sealing.{seal as sealedBy, answerOf};
 ghost use Rattle.pack.specs.Opening.{OneBlock};
 use crate::cipher;
+use strings::refusal::Answer;
+use strings::refusal::Refusal;
 
-// What sealing answers: that it was done, or why it was not.
-pub enum Sealed {
-    Done,
-    KeyLength,
-    BlockLength,
-    PayloadTooLong,
-    PlaceTooHigh,
-}
-
-impl Sealed {
-    // 01's number of a refusal, and 0 for a call that was done.
-    pub fn number(self) -> u32
-        ensures { λ r. ⌜ r ≡ numberOf self ⌝ }
-    {
-        match self {
-            Sealed::Done => 0,
-            Sealed::KeyLength => 1,
-            Sealed::BlockLength => 7,
-            Sealed::PayloadTooLong => 5,
-            Sealed::PlaceTooHigh => 6,
-        }
-    }
+// What sealing looks at, in 01's order.
+fn judge(key: &[u8], payload: &[u8], place: u32, block: &[u8]) -> Answer
+    ensures { λ r. ⌜ r ≡ answerOf scheme (now (key .entry)) (now (payload .entry)) place (now (block .entry)) ⌝ }
+{
+    let valid = hch::is_key(key);
+    Answer::Done
+        .refuse_if(!valid, Refusal::KeyLength)
+        .refuse_if(block.len() != 512, Refusal::BlockLength)
+        .refuse_if(payload.len() > 496, Refusal::PayloadTooLong)
+        .refuse_if(place > 65535, Refusal::PlaceTooHigh)
 }
 
 // Seals a payload into the lent block for a pack and a place, or refuses and leaves the block as it is.
-pub fn seal(key: &[u8], payload: &[u8], pack: u64, place: u32, block: &mut [u8]) -> Sealed
-    ensures { λ r. ⌜ r ≡ answerOf (now (key .entry)) (now (payload .entry)) place (now (block .entry)) ⌝ }
-    ensures { λ r. ⌜ now (block .exit) ≡ leftBy (numberOf r) (sealedBy enciphered (now (key .entry)) (now (payload .entry)) pack place) (now (block .entry)) ⌝ }
-    ensures { λ r. ⌜ (numberOf r ≡ 0 → OneBlock deciphered (now (key .entry)) (now (payload .entry)) pack place (now (block .exit))) ⌝ }
+pub fn seal(key: &[u8], payload: &[u8], pack: u64, place: u32, block: &mut [u8]) -> Answer
+    ensures { λ r. ⌜ r ≡ answerOf scheme (now (key .entry)) (now (payload .entry)) place (now (block .entry)) ⌝ }
+    ensures { λ r. ⌜ now (block .exit) ≡ leftBy (numberOf r) (sealedBy scheme (now (key .entry)) (now (payload .entry)) pack place) (now (block .entry)) ⌝ }
+    ensures { λ r. ⌜ (numberOf r ≡ 0 → OneBlock scheme (now (key .entry)) (now (payload .entry)) pack place (now (block .exit))) ⌝ }
 {
-    if key.len() != 16 {
-        return Sealed::KeyLength;
+    let answer = judge(key, payload, place, block);
+    if let Answer::Done = answer {
+        layout::write(payload, pack, place, block);
+        cipher::encipher(key, pack, place, block);
     }
-    if block.len() != 512 {
-        return Sealed::BlockLength;
-    }
-    if payload.len() > 496 {
-        return Sealed::PayloadTooLong;
-    }
-    if place > 65535 {
-        return Sealed::PlaceTooHigh;
-    }
-    layout::write(payload, pack, place, block);
-    cipher::encipher(key, pack, place, block);
-    Sealed::Done
+    answer
 }

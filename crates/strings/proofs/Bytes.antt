@@ -2,16 +2,17 @@
 -- Assumes nothing.
 use Prim.Native.Nat.{ℕ, zero, suc, _+_, _-_, _*_, _/_, _%_, _^_, _≤_, _<_}
 use mathlib.Core.Path.{_≡_, refl, ap}
-use mathlib.Core.List.{List, [], _∷_, _++_}
-use native.Mathlib.Nat.{zero-add, suc-add, add-assoc, add-mul, mul-assoc, mul-comm, mul-zero, mul-suc, pow-zero, pow-suc, pow-succ', one-le-pow, sub-zero, zero-sub, suc-sub-suc, le-refl, le-of-suc-le-suc, mod-eq-of-lt, div-div-eq-div-mul, mul-add-div-right, mul-add-mod-self-right}
+use mathlib.Core.List.{List, [], _∷_, _++_, append-nil}
+use native.Mathlib.Nat.{zero-add, suc-add, add-assoc, add-mul, mul-assoc, mul-comm, mul-zero, mul-suc, pow-zero, pow-suc, pow-succ', one-le-pow, sub-zero, zero-sub, sub-self, suc-sub-suc, le-refl, le-of-suc-le-suc, mod-eq-of-lt, div-div-eq-div-mul, mul-add-div-right, mul-add-mod-self-right}
 use native.Mathlib.Numerals.{one-add}
 use native.Mathlib.Omega.{arith}
 use lib.Arith.{digits-lt, digits-div, mod-mul}
 use lib.Pow.{pow-add}
 use lib.ListN.{length, getD, take, drop, replicate, length-append, List·getD-eq-default}
-use lib.Seq.{getD-drop, drop-drop, take-nil, take-all}
+use lib.Seq.{getD-drop, drop-drop, take-nil, take-all, length-take-le}
 use Rattle.strings.specs.Xor.{_⊕_, xorBytes}
 use Rattle.strings.specs.Bytes.{Below, Bytes, number, bytes}
+use Rattle.strings.specs.Inner.{padded}
 use Rattle.strings.proofs.Xor.{xor-cancel-right, xor-shr, xor-mod}
 
 -- Strings whose entries are below n. Past the end an entry is 0, so n is never 0.
@@ -125,10 +126,6 @@ take-append zero (a ∷ s) t = rw zero-sub
 take-append (suc n) (a ∷ s) t = rw (take-append n s t, suc-sub-suc)
 
 -- The first n entries, 0 past the end.
-unfoldable pub padded : ℕ → List ℕ → List ℕ
-padded zero s = []
-padded (suc n) s = getD s 0 0 ∷ padded n (drop 1 s)
-
 pub length-padded : (n : ℕ) (s : List ℕ) → length (padded n s) ≡ n
 unfolding padded
 length-padded zero s = refl
@@ -166,3 +163,6 @@ unfolding padded
 take-zeros zero s = refl
 take-zeros (suc n) [] = rw sub-zero (padded-nil (suc n))
 take-zeros (suc n) (a ∷ s) = rw (suc-sub-suc, take-zeros n s)
+
+pub padded-take : (n : ℕ) (s : List ℕ) → n ≤ length s → padded n s ≡ take n s
+padded-take n s h = rw (← take-zeros n s, length-take-le n s h, sub-self, append-nil)

@@ -8,4 +8,5 @@ pub mod Arrays
 pub mod Permutations
 pub mod One
 pub mod Pass
+pub mod Refusals
 pub mod Theorems

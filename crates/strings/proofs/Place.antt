@@ -1,17 +1,18 @@
--- Bytes at a place of a string: what `Block::read` and `Block::write` go by, and a part of a string that is lent by itself.
+-- Bytes at a place of a string: what `number::get` and `number::put` go by, and a part of a string that is lent by itself.
 -- Assumes nothing.
-use Prim.Native.Nat.{ℕ, zero, suc, _+_, _-_, _*_, _/_, _%_, _^_, _≤_, _<_}
-use mathlib.Core.Path.{_≡_, ap}
+use Prim.Native.Nat.{ℕ, zero, suc, _+_, _-_, _*_, _/_, _%_, _^_, _≤_, _<_, min}
+use mathlib.Core.Path.{_≡_, sym, ap}
+use mathlib.Core.Logic.{⊎-elim}
 use mathlib.Core.List.{List, [], _∷_, _++_, append-nil}
-use native.Mathlib.Nat.{sub-zero, zero-add, add-suc, pow-suc, div-div-eq-div-mul, add-zero, zero-sub, suc-sub-suc, suc-add, pow-le-pow-right, lt-of-lt-of-le}
+use native.Mathlib.Nat.{sub-zero, zero-add, add-suc, pow-suc, div-div-eq-div-mul, add-zero, zero-sub, suc-sub-suc, suc-add, pow-le-pow-right, le-refl, lt-of-lt-of-le, eq-or-lt-of-le}
 use native.Mathlib.Numerals.{add-one}
 use native.Mathlib.Omega.{arith}
 use lib.Arith.{digits-div}
 use lib.ListN.{length, getD, take, drop, set, take-append-drop, length-append, length-drop, length-set, drop-of-length-le}
-use lib.Seq.{getD-drop, drop-at, take-nil, take-all, drop-nil, drop-length, set-out, set-comm}
+use lib.Seq.{getD-drop, drop-at, drop-drop, take-nil, take-all, take-length, drop-nil, drop-length, set-out, set-set, set-comm}
 use Rattle.strings.specs.Bytes.{Bytes, number, bytes}
-use Rattle.strings.specs.Inner.{overwrite}
-use Rattle.strings.proofs.Bytes.{bytes-append, bytes-above, number-below, number-append, padded, length-padded, padded-below, padded-suc, below-drop}
+use Rattle.strings.specs.Inner.{padded, overwrite}
+use Rattle.strings.proofs.Bytes.{bytes-append, bytes-above, number-below, number-append, length-padded, padded-below, padded-suc, below-drop}
 
 -- Reading one byte more: what has been read is shifted up.
 pub number-next : (n at : ℕ) (s : List ℕ)
@@ -30,9 +31,13 @@ pub overwrite-nil : (i : ℕ) (s : List ℕ) → overwrite i [] s ≡ s
 unfolding overwrite
 overwrite-nil i s = rw (take-nil, add-zero, take-append-drop)
 
-overwrite-head : (t s : List ℕ) → length t ≤ length s → overwrite 0 t s ≡ t ++ drop (length t) s
+pub overwrite-head : (t s : List ℕ) → length t ≤ length s → overwrite 0 t s ≡ t ++ drop (length t) s
 unfolding overwrite
 overwrite-head t s h = rw (sub-zero, zero-add, take-all (length s) t h)
+
+-- What a copy over the front of a string leaves.
+pub copied-front : (t s : List ℕ) → length t ≤ length s → take (length t) t ++ drop (length t) s ≡ overwrite 0 t s
+copied-front t s h = rw (overwrite-head t s h, take-all (length t) t (le-refl (length t)))
 
 pub overwrite-whole : (t s : List ℕ) → length t ≡ length s → overwrite 0 t s ≡ t
 overwrite-whole t s h = rw (overwrite-head t s (omega (arith, h)), h, drop-length s, append-nil)
@@ -85,6 +90,21 @@ overwrite-append i (b ∷ t) u s =
       suc-add,
     )
 
+-- Written over by as many bytes at the same place.
+pub overwrite-again : (i : ℕ) (a t u s : List ℕ) → length a ≡ length t → overwrite i t (overwrite i (a ++ u) s) ≡ overwrite i (t ++ u) s
+overwrite-again i [] [] u s h = overwrite-nil i (overwrite i u s)
+overwrite-again i [] (b ∷ t) u s h = absurd (omega arith)
+overwrite-again i (b ∷ a) [] u s h = absurd (omega arith)
+overwrite-again i (b ∷ a) (c ∷ t) u s h =
+    rw (
+      overwrite-cons i b (a ++ u) s,
+      overwrite-cons i c t (set (overwrite (suc i) (a ++ u) s) i b),
+      sym (overwrite-set i b (suc i) t (overwrite (suc i) (a ++ u) s) (omega arith)),
+      set-set,
+      overwrite-again (suc i) a t u s (omega arith),
+      overwrite-cons i c (t ++ u) s,
+    )
+
 -- The bytes of a number of two parts.
 pub bytes-join : (m n q : ℕ) {r : ℕ} → r < 256 ^ n → bytes (m + n) (q * 256 ^ n + r) ≡ bytes m q ++ bytes n r
 bytes-join m n q {r} h = rw (bytes-append m n (q * 256 ^ n + r), digits-div q h, bytes-above n q r)
@@ -124,6 +144,21 @@ put-back w s t =
     let short : length (drop w s) ≤ length s - w = rw length-drop (omega arith) in
     let none : drop (length s - w) (drop w s) ≡ [] = drop-of-length-le (drop w s) short in
     rw (none, append-nil t)
+
+-- Written to the front of the part behind the first i bytes, as far as it reaches: n is as many bytes as have room.
+pub overwrite-part : (i n : ℕ) (t s : List ℕ) → n ≡ min (length t) (length s - i) → take i s ++ (take n t ++ drop n (drop i s)) ≡ overwrite i t s
+unfolding overwrite
+overwrite-part i n t s e =
+    let some : n ≤ length t = omega arith in
+    rw drop-drop
+    (⊎-elim (λ (h : n ≡ length t). rw (h, take-length t, take-all (length s - i) t (omega arith)))
+    (λ (h : n < length t).
+    let room : n ≡ length s - i = omega arith in
+    rw (
+      room,
+      drop-of-length-le s {i = i + (length s - i)} (omega arith),
+      drop-of-length-le s {i = i + length t} (omega arith),
+    )) (eq-or-lt-of-le some))
 
 pub overwrite-front-part : (w : ℕ) (a t u : List ℕ) → length a ≡ w → length u ≡ w → overwrite 0 u (a ++ t) ≡ u ++ t
 overwrite-front-part w a t u ha hu =

@@ -1,6 +1,36 @@
--- What the calls that refuse have in common.
+-- What the calls that refuse have in common: the reasons with 01's numbers, the first test that holds, and what is left of the lent bytes.
 use Prim.Native.Nat.{ℕ, zero, suc}
-use mathlib.Core.List.{List}
+use mathlib.Core.Bool.{Bool, cond}
+use mathlib.Core.List.{List, [], _∷_}
+use Rattle.strings.specs.declared.refusal.Refusal.{Refusal}
+use Rattle.strings.specs.declared.refusal.Refusal.the-variants.{KeyLength, TweakLength, TooShort, TooLong, PayloadTooLong, PlaceTooHigh, BlockLength, CheckFailed}
+use Rattle.strings.specs.declared.refusal.Answer.{Answer}
+use Rattle.strings.specs.declared.refusal.Answer.the-variants.{Done, Refused}
+
+-- 01, "Numbers for a call that was not done".
+abbrev pub refusalNumber : Refusal → ℕ
+refusalNumber KeyLength = 1
+refusalNumber TweakLength = 2
+refusalNumber TooShort = 3
+refusalNumber TooLong = 4
+refusalNumber PayloadTooLong = 5
+refusalNumber PlaceTooHigh = 6
+refusalNumber BlockLength = 7
+refusalNumber CheckFailed = 8
+
+-- A call that was done has 0.
+abbrev pub numberOf : Answer → ℕ
+numberOf Done = 0
+numberOf (Refused why) = refusalNumber why
+
+-- What a call looks at, in its order: conditions, each with the refusal that it is answered with.
+abbrev pub Tests : Type 0
+Tests = List (Bool × Refusal)
+
+-- 01, "Where several conditions hold, the first in the order below is the one returned"; where none holds the call is done.
+unfoldable pub looksAt : Tests → Answer
+looksAt [] = Done
+looksAt ((holds, why) ∷ tests) = cond holds (Refused why) (looksAt tests)
 
 -- 01, "Each leaves the lent bytes unchanged": a call of number 0 was done and leaves its work, and one of any other number what was lent.
 abbrev pub leftBy : (number : ℕ) (work lent : List ℕ) → List ℕ

@@ -1,6 +1,7 @@
 -- Permutations with their inverses, and ciphers of strings.
 use Prim.Native.Nat.{ℕ}
 use mathlib.Core.Path.{_≡_}
+use mathlib.Core.Bool.{Bool}
 use mathlib.Core.List.{List}
 use Rattle.strings.specs.Bytes.{OfLength}
 
@@ -18,3 +19,9 @@ Cipher n f g = Permutation (OfLength n) f g
 -- A tweakable cipher of n bytes: a cipher and its inverse for each tweak of t bytes.
 abbrev pub TweakableCipher : (t n : ℕ) (E D : List ℕ → List ℕ → List ℕ) → Type 0
 TweakableCipher t n E D = (T : List ℕ) → OfLength t T → Cipher n (E T) (D T)
+
+-- A tweakable enciphering scheme: which strings are its keys, and what it makes of a message under a key and a tweak, both ways.
+pub record Scheme : Type 0 where
+  pub isKey : List ℕ → Bool
+  pub encipher : (key tweak message : List ℕ) → List ℕ
+  pub decipher : (key tweak message : List ℕ) → List ℕ

@@ -1,1 +1,4 @@
-// Byte strings, and what the calls of all crates have in common.
+// What stands below blocks: byte strings, and what the calls of all crates have in common.
+pub mod number;
+pub mod places;
+pub mod refusal;

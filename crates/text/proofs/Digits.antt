@@ -14,8 +14,9 @@ use lib.Dec.{leb, ltb, eqb}
 use borrow.Author.Tests.{le-leb, lt-leb, lt-ltb, le-ltb, leb-true, ltb-true, ltb-false, eq-eqb, ne-eqb, eqb-true}
 use Rattle.text.specs.declared.hex.Decoded.{Decoded}
 use Rattle.text.specs.declared.hex.Decoded.the-variants.{Bytes, Refused}
-use Rattle.text.specs.Hex.{digit, isDigit, value, hex, allDigits, isHex, unhex, decodedOf, fieldOf}
-use Rattle.text.specs.Part.{before, split}
+use Rattle.text.specs.Hex.{digit, isDigit, value, hex, allDigits, isHex, unhex}
+use Rattle.text.specs.Part.{split}
+use Rattle.text.specs.Inner.{before, decodedOf, fieldOf}
 use Rattle.text.proofs.Parts.{before-le, split-none}
 
 -- ---- one digit

@@ -1,26 +1,36 @@
--- Laws of `before`, `splitFrom` and `appended`, each by induction on the list. Assumes nothing.
+-- Laws of `before` and `splitFrom`, by induction on the list, and of a line that goes on. Assumes nothing.
 use mathlib.Core.Path.{_≡_, refl, sym, ap, _∙_}
 use mathlib.Core.Bool.{Bool, true, false, cond}
 use mathlib.Core.List.{List, [], _∷_, _++_, append-nil, append-assoc}
-use Prim.Native.Nat.{ℕ, zero, suc, _+_, _≤_, _<_, min, zero-le, suc-le-suc}
-use native.Mathlib.Nat.{not-suc-le-zero, le-of-suc-le-suc, zero-add, suc-add, zero-min, suc-min-suc}
+use Prim.Native.Nat.{ℕ, suc, _+_, _≤_, _<_, zero-le, suc-le-suc}
+use native.Mathlib.Nat.{not-suc-le-zero, le-of-suc-le-suc, le-of-lt, zero-add, add-assoc}
 use native.Mathlib.Numerals.{add-one}
 use native.Mathlib.Omega.{arith}
-use lib.ListN.{length, take, drop, getD, set, length-append, length-drop}
-use lib.Seq.{drop-cons, take-nil, take-append-add}
-use lib.Dec.{eqb}
-use borrow.Author.Tests.{eq-eqb, ne-eqb, eqb-true}
-use Rattle.text.specs.Part.{before, splitFrom, appended}
+use lib.ListN.{length, take, drop, length-append}
+use lib.Seq.{take-length, take-append-add}
+use lib.Dec.{eqb, leb}
+use borrow.Author.Tests.{eq-eqb, eqb-true, lt-leb, leb-false}
+use Rattle.bytes.specs.Bytes.{slice, indexAfter, indexOf}
+use Rattle.strings.specs.Inner.{overwrite}
+use Rattle.strings.proofs.Place.{length-overwrite, overwrite-past, overwrite-append}
+use Rattle.text.specs.Part.{splitFrom}
+use Rattle.text.specs.Inner.{before, lineWith, keptWith}
+use Rattle.text.specs.declared.part.Kept.{Kept}
+use Rattle.text.specs.declared.part.Kept.the-variants.{Characters, TooLong}
 
--- b stands at i: nothing is in front of it
-pub before-here : (b : ℕ) (s : List ℕ) (i : ℕ) → i < length s → getD s i 0 ≡ b → before b (drop i s) ≡ []
-unfolding before
-before-here b s i h e = rw (drop-cons s i 0 h) (simp (eq-eqb _ _ e))
+-- its length is the place of the first b, which is what `bytes::scan::find` answers
+length-before : (b : ℕ) (xs : List ℕ) → length (before b xs) ≡ indexOf b xs
+unfolding before indexOf
+length-before b [] = refl
+length-before b (x ∷ xs) = by (eqb x b) (length-before b xs)
+  where
+    by : (t : Bool) → length (before b xs) ≡ indexOf b xs → length (cond t [] (x ∷ before b xs)) ≡ indexAfter t (indexOf b xs)
+    by true e = refl
+    by false e = ap suc e
 
--- another byte stands at i: it is in front
-pub before-past : (b : ℕ) (s : List ℕ) (i : ℕ) → i < length s → (getD s i 0 ≡ b → ⊥) → before b (drop i s) ≡ getD s i 0 ∷ before b (drop (suc i) s)
-unfolding before
-before-past b s i h n = rw (drop-cons s i 0 h) (simp (ne-eqb _ _ n))
+pub before-index : (b : ℕ) (s : List ℕ) {n : ℕ} → n ≡ 0 + indexOf b (slice 0 (length s) s) → n ≡ length (before b s)
+unfolding slice
+before-index b s e = rw (length-before b s) (simp (zero-add, take-length) at e)
 
 shorter : (t : Bool) (x : ℕ) (xs ys : List ℕ) → length ys ≤ length xs → length (cond t [] (x ∷ ys)) ≤ suc (length xs)
 shorter true x xs ys h = zero-le
@@ -31,10 +41,6 @@ pub before-le : (b : ℕ) (xs : List ℕ) → length (before b xs) ≤ length xs
 unfolding before
 before-le b [] = zero-le
 before-le b (x ∷ xs) = shorter (eqb x b) x xs (before b xs) (before-le b xs)
-
--- what `find` answers is within the list where it starts there
-pub before-within : (b : ℕ) (s : List ℕ) (i : ℕ) → i ≤ length s → i + length (before b (drop i s)) ≤ length s
-before-within b s i h = omega (arith, before-le b (drop i s), length-drop i s)
 
 -- The part in front of the first b stands at the front. Each law goes by the test whether the first byte is b, its value t.
 take-test : (t : Bool) (x : ℕ) (xs ys : List ℕ) → take (length ys) xs ≡ ys → take (length (cond t [] (x ∷ ys))) (x ∷ xs) ≡ cond t [] (x ∷ ys)
@@ -102,88 +108,34 @@ split-first b u xs h =
 
 -- ---- a line goes on with more
 
-pub length-appended : (line : List ℕ) (n : ℕ) (more : List ℕ) → length (appended line n more) ≡ length line
-unfolding appended
-length-appended [] n more = refl
-length-appended (x ∷ line) (suc n) more = ap suc (length-appended line n more)
-length-appended (x ∷ line) zero [] = refl
-length-appended (x ∷ line) zero (m ∷ more) = ap suc (length-appended line zero more)
-
-pub appended-none : (line : List ℕ) (n : ℕ) → appended line n [] ≡ line
-unfolding appended
-appended-none [] n = refl
-appended-none (x ∷ line) (suc n) = ap (λ (l : List ℕ). x ∷ l) (appended-none line n)
-appended-none (x ∷ line) zero = refl
-
--- past the end nothing is written
-pub appended-past : (line : List ℕ) (n : ℕ) (more : List ℕ) → length line ≤ n → appended line n more ≡ line
-unfolding appended
-appended-past [] n more h = refl
-appended-past (x ∷ line) (suc n) more h = ap (λ (l : List ℕ). x ∷ l) (appended-past line n more (le-of-suc-le-suc h))
-appended-past (x ∷ line) zero more h = absurd (not-suc-le-zero h)
-
--- what has no room is not written: it is enough to write as many bytes as there are, or as there is room for
-pub appended-room : (line : List ℕ) (n : ℕ) (more : List ℕ) (k : ℕ) → min (length line) (n + length more) ≤ n + k → appended line n (take k more) ≡ appended line n more
-unfolding appended
-appended-room [] n more k h = refl
-appended-room (x ∷ line) (suc n) more k h = ap (λ (l : List ℕ). x ∷ l) (appended-room line n more k (omega arith))
-appended-room (x ∷ line) zero [] zero h = refl
-appended-room (x ∷ line) zero [] (suc k) h = refl
-appended-room (x ∷ line) zero (m ∷ more) zero h = absurd (omega arith)
-appended-room (x ∷ line) zero (m ∷ more) (suc k) h = ap (λ (l : List ℕ). m ∷ l) (appended-room line zero more k (omega arith))
-
--- a store writes one byte more
-pub appended-store : (line : List ℕ) (n : ℕ) (more : List ℕ) (i : ℕ) → i < length more → n + i < length line
-    → set (appended line n (take i more)) (n + i) (getD more i 0) ≡ appended line n (take (suc i) more)
-unfolding appended
-appended-store [] n more i h k = absurd (omega arith)
-appended-store (x ∷ line) n [] i h k = absurd (not-suc-le-zero h)
-appended-store (x ∷ line) (suc n) (m ∷ more) i h k = rw (suc-add n i) (ap (λ (l : List ℕ). x ∷ l) (appended-store line n (m ∷ more) i h (omega arith)))
-appended-store (x ∷ line) zero (m ∷ more) zero h k = rw (zero-add 0) (ap (λ (l : List ℕ). m ∷ l) (sym (appended-none line zero)))
-appended-store (x ∷ line) zero (m ∷ more) (suc i) h k =
-    rw (zero-add (suc i)) (rw (zero-add i) at (ap (λ (l : List ℕ). m ∷ l) (appended-store line zero more i (le-of-suc-le-suc h) (omega arith))))
-
--- what is appended where there is room for it stands behind the line so far
-pub appended-take : (line : List ℕ) (n : ℕ) (more : List ℕ) → n + length more ≤ length line → take (n + length more) (appended line n more) ≡ take n line ++ more
-unfolding appended
-appended-take [] n [] h = simp take-nil
-appended-take [] n (m ∷ more) h = absurd (omega arith)
-appended-take (x ∷ line) (suc n) more h = rw (suc-add n (length more)) (ap (λ (l : List ℕ). x ∷ l) (appended-take line n more (omega arith)))
-appended-take (x ∷ line) zero [] h = refl
-appended-take (x ∷ line) zero (m ∷ more) h =
-    rw (zero-add (suc (length more))) (rw (zero-add (length more)) at (ap (λ (l : List ℕ). m ∷ l) (appended-take line zero more (omega arith))))
-
--- at the front: then what stood behind it
-pub appended-front : (line more : List ℕ) → length more ≤ length line → appended line 0 more ≡ more ++ drop (length more) line
-unfolding appended
-appended-front [] [] h = refl
-appended-front [] (m ∷ more) h = absurd (not-suc-le-zero h)
-appended-front (x ∷ line) [] h = refl
-appended-front (x ∷ line) (m ∷ more) h = ap (λ (l : List ℕ). m ∷ l) (appended-front line more (le-of-suc-le-suc h))
-
--- the count of a line that goes on with two parts, one after the other
-pub count-twice : (line a b : List ℕ) (n : ℕ)
-    → min (min (n + length a) (length line + 1) + length b) (length line + 1) ≡ min (n + length (a ++ b)) (length line + 1)
-count-twice line a b n = simp length-append (omega arith)
-
-both : (line : List ℕ) (n : ℕ) (a b : List ℕ) → appended (appended line n a) (n + length a) b ≡ appended line n (a ++ b)
-unfolding appended
-both [] n a b = refl
-both (x ∷ line) (suc n) a b = rw (suc-add n (length a)) (ap (λ (l : List ℕ). x ∷ l) (both line n a b))
-both (x ∷ line) zero [] b = rw (zero-add 0) refl
-both (x ∷ line) zero (m ∷ a) b = rw (zero-add (suc (length a))) (rw (zero-add (length a)) at (ap (λ (l : List ℕ). m ∷ l) (both line zero a b)))
-
--- a count that is past the line's end by more than one says no more than by one
-cut : (line : List ℕ) (n : ℕ) (more : List ℕ) → appended line (min n (length line + 1)) more ≡ appended line n more
-unfolding appended
-cut [] n more = refl
-cut (x ∷ line) zero more = rw (zero-min (suc (length line) + 1)) refl
-cut (x ∷ line) (suc n) more = rw (suc-add (length line) 1, suc-min-suc n (length line + 1)) (ap (λ (l : List ℕ). x ∷ l) (cut line n more))
+-- what is kept, by the test whether there is room, its value t
+bytes-test : (t : Bool) (line : List ℕ) (n : ℕ) (a b : List ℕ) → leb (n + length a) (length line) ≡ t
+    → lineWith (overwrite n a line) (cond t (Characters (n + length a)) TooLong) b ≡ overwrite n (a ++ b) line
+unfolding lineWith
+bytes-test true line n a b e = sym (overwrite-append n a b line)
+bytes-test false line n a b e =
+    let past : length (overwrite n a line) ≤ n + length a = rw length-overwrite (le-of-lt (leb-false (n + length a) (length line) e)) in
+    rw (overwrite-append n a b line) (sym (overwrite-past (n + length a) b (overwrite n a line) past))
 
 -- the bytes of a line that goes on with two parts, one after the other, are those of one that goes on with both
-pub appended-twice : (line : List ℕ) (n : ℕ) (a b : List ℕ)
-    → appended (appended line n a) (min (n + length a) (length line + 1)) b ≡ appended line n (a ++ b)
-appended-twice line n a b =
-    ap (λ (k : ℕ). appended (appended line n a) (min (n + length a) (k + 1)) b) (sym (length-appended line n a))
-    ∙ cut (appended line n a) (n + length a) b
-    ∙ both line n a b
+pub bytes-twice : (line : List ℕ) (kept : Kept) (a b : List ℕ)
+    → lineWith (lineWith line kept a) (keptWith line kept a) b ≡ lineWith line kept (a ++ b)
+unfolding lineWith keptWith
+bytes-twice line (Characters n) a b = bytes-test (leb (n + length a) (length line)) line n a b refl
+bytes-twice line TooLong a b = refl
+
+kept-test : (t : Bool) (line line′ : List ℕ) (n : ℕ) (a b : List ℕ) → length line′ ≡ length line → leb (n + length a) (length line) ≡ t
+    → keptWith line′ (cond t (Characters (n + length a)) TooLong) b ≡ keptWith line (Characters n) (a ++ b)
+unfolding keptWith
+kept-test true line line′ n a b same e = rw (same, length-append a b, add-assoc n (length a) (length b)) refl
+kept-test false line line′ n a b same e =
+    let long : length line < n + length (a ++ b) = rw length-append (omega (arith, leb-false (n + length a) (length line) e)) in
+    rw (lt-leb (n + length (a ++ b)) (length line) long) refl
+
+-- and so is what is kept of it
+pub kept-twice : (line : List ℕ) (kept : Kept) (a b : List ℕ)
+    → keptWith (lineWith line kept a) (keptWith line kept a) b ≡ keptWith line kept (a ++ b)
+unfolding lineWith keptWith
+kept-twice line (Characters n) a b =
+    kept-test (leb (n + length a) (length line)) line (overwrite n a line) n a b (length-overwrite n a line) refl
+kept-twice line TooLong a b = refl

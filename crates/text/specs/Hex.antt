@@ -1,12 +1,9 @@
 -- Lower-case hexadecimal: a byte is two digits, the high one first.
-use Prim.Native.Nat.{ℕ, _+_, _-_, _*_, _/_, _%_, min}
+use Prim.Native.Nat.{ℕ, _+_, _-_, _*_, _/_, _%_}
 use mathlib.Core.Bool.{Bool, true, cond, _&&_, _||_}
-use mathlib.Core.List.{List, [], _∷_, _++_}
+use mathlib.Core.List.{List, [], _∷_}
 use lib.Dec.{ltb, leb, eqb}
-use lib.ListN.{length, take, drop}
-use Rattle.text.specs.Part.{before}
-use Rattle.text.specs.declared.hex.Decoded.{Decoded}
-use Rattle.text.specs.declared.hex.Decoded.the-variants.{Bytes, Refused}
+use lib.ListN.{length}
 
 -- The character of a number below 16: `0` is 48, and `a`, for ten, is 97.
 unfoldable pub digit : ℕ → ℕ
@@ -39,24 +36,3 @@ unfoldable pub unhex : List ℕ → List ℕ
 unhex [] = []
 unhex (c ∷ []) = []
 unhex (c ∷ d ∷ s) = (value c * 16 + value d) ∷ unhex s
-
--- How many whole bytes have room in `out`, two characters each.
-unfoldable pub fitting : List ℕ → List ℕ → ℕ
-fitting bytes out = min (length bytes) (length out / 2)
-
--- What `encode` leaves in `out`: their digits, and then what stood there.
-unfoldable pub encodedIn : List ℕ → List ℕ → List ℕ
-encodedIn bytes out = hex (take (fitting bytes out) bytes) ++ drop (2 * fitting bytes out) out
-
--- What `decode` answers: how many bytes it wrote, or that the text is not hexadecimal or `out` is too short for it.
-unfoldable pub decodedOf : List ℕ → List ℕ → Decoded
-decodedOf text out = cond (isHex text && leb (length text / 2) (length out)) (Bytes (length text / 2)) Refused
-
--- What `decode` leaves in `out` with that answer.
-unfoldable pub leftBy : Decoded → List ℕ → List ℕ → List ℕ
-leftBy (Bytes n) text out = unhex text ++ drop n out
-leftBy Refused text out = out
-
--- What `decode_field` answers: as `decode` does for what stands in front of the first b, and that there is no field where there is no b.
-unfoldable pub fieldOf : ℕ → List ℕ → List ℕ → Decoded
-fieldOf b text out = cond (ltb (length (before b text)) (length text)) (decodedOf (before b text) out) Refused

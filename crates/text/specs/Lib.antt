@@ -1,3 +1,4 @@
 pub mod Hex
 pub mod Part
+pub mod Inner
 pub mod Theorems

@@ -3,8 +3,8 @@ ghost use mathlib.Core.Path.{_≡_};
 ghost use mathlib.Core.Bool.{true};
 ghost use Prim.Native.Nat.{_+_, _*_, _<_};
 ghost use lib.ListN.{length, getD};
-ghost use Rattle.text.specs.Hex.{digit, isDigit, value, isHex, fitting, encodedIn, decodedOf, fieldOf, leftBy};
-ghost use Rattle.text.specs.Part.{before};
+ghost use Rattle.text.specs.Hex.{digit, isDigit, value, isHex};
+ghost use Rattle.text.specs.Inner.{before, fitting, encodedIn, decodedOf, fieldOf, decodedIn};
 
 // What `decode` answers: how many bytes it wrote, or that it wrote none.
 pub enum Decoded {
@@ -18,7 +18,7 @@ pub fn encode(bytes: &[u8], out: &mut [u8]) -> usize
     ensures { λ r. ⌜ r ≡ 2 * fitting (now (bytes .entry)) (now (out .entry)) ⌝ }
     ensures { λ _. ⌜ now (out .exit) ≡ encodedIn (now (bytes .entry)) (now (out .entry)) ⌝ }
 {
-    let n = crate::least(bytes.len(), out.len() / 2);
+    let n = strings::places::least(bytes.len(), out.len() / 2);
     let mut i = 0;
     while i < n {
         let b = bytes[i];
@@ -51,7 +51,7 @@ pub fn is_hex(text: &[u8]) -> bool
 // stands for more bytes than `out` has, is refused, and `out` is as it was.
 pub fn decode(text: &[u8], out: &mut [u8]) -> Decoded
     ensures { λ r. ⌜ r ≡ decodedOf (now (text .entry)) (now (out .entry)) ⌝ }
-    ensures { λ r. ⌜ now (out .exit) ≡ leftBy r (now (text .entry)) (now (out .entry)) ⌝ }
+    ensures { λ r. ⌜ now (out .exit) ≡ decodedIn r (now (text .entry)) (now (out .entry)) ⌝ }
 {
     let n = text.len() / 2;
     if out.len() < n {
@@ -72,9 +72,9 @@ pub fn decode(text: &[u8], out: &mut [u8]) -> Decoded
 // it answers n bytes, what follows the field begins at 2 * n + 1. Text with no `end` is refused.
 pub fn decode_field(text: &[u8], end: u8, out: &mut [u8]) -> Decoded
     ensures { λ r. ⌜ r ≡ fieldOf end (now (text .entry)) (now (out .entry)) ⌝ }
-    ensures { λ r. ⌜ now (out .exit) ≡ leftBy r (before end (now (text .entry))) (now (out .entry)) ⌝ }
+    ensures { λ r. ⌜ now (out .exit) ≡ decodedIn r (before end (now (text .entry))) (now (out .entry)) ⌝ }
 {
-    let n = crate::part::find(text, 0, end);
+    let n = bytes::scan::find(text, 0, text.len(), end);
     if n >= text.len() {
         return Decoded::Refused;
     }

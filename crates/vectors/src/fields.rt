@@ -1,54 +1,48 @@
 // The fields of a line, and the line of an answer.
-ghost use Prim.Native.Nat.{_/_, _≤_};
+ghost use mathlib.Core.Path.{_≡_};
+ghost use mathlib.Core.Bool.{true};
+ghost use Prim.Native.Nat.{ℕ, _*_, _≤_, _<_};
 ghost use lib.ListN.{length};
+ghost use Rattle.text.specs.declared.hex.Decoded.the-variants.{Bytes};
 use crate::LIMIT;
 use blocks::block::Block;
 use libc::STDOUT_FILENO;
 use text::hex::Decoded;
 
-// Decodes the blocks that stand in `line`, one space between two, to the front of `data`. Returns the number of their bytes, or 0
-// where a field is not a block or `data` is full.
-pub(crate) fn blocks_from(line: &[u8], data: &mut [u8]) -> usize
-    ensures { λ r. ⌜ r ≤ length (now («data» .entry)) ⌝ }
+// Decodes the blocks that stand in `line`, one space between two, to the front of `data`, and answers
+// the number of their bytes. A field that is not a block is refused, and so is one block more than
+// `data` has room for.
+pub(crate) fn blocks_from(line: &[u8], data: &mut [u8]) -> Decoded
+    ensures { λ r. ⌜ ((n : ℕ) → r ≡ Bytes n → n ≤ length (now («data» .entry))) ⌝ }
 {
     let mut n = 0;
     let mut next = 0;
     while next <= line.len() {
-        let end = text::part::find(line, next, b' ');
+        let end = bytes::scan::find(line, next, line.len(), b' ');
         if data.len() - n < 16 {
-            return 0;
+            return Decoded::Refused;
         }
         let Decoded::Bytes(count) = text::hex::decode(&line[next..end], &mut data[n..n + 16]) else {
-            return 0;
+            return Decoded::Refused;
         };
         if count != 16 {
-            return 0;
+            return Decoded::Refused;
         }
         n += 16;
         next = end + 1;
     }
-    n
+    Decoded::Bytes(n)
 }
 
-// Decodes a field of any length to the front of `out`. Returns the number of its bytes; one past the length of `out` says that
-// the field is not hexadecimal or has no room.
-pub(crate) fn field(digits: &[u8], out: &mut [u8]) -> usize {
-    let Decoded::Bytes(count) = text::hex::decode(digits, out) else {
-        return out.len() + 1;
-    };
-    count
-}
-
-// Decodes the field at the front of `line`, which ends at the first space, to the front of `out`. Returns the place behind the
-// space, twice the number of bytes and one more; 0 says that no space ends it, it is not hexadecimal or it has no room.
-pub(crate) fn first(line: &[u8], out: &mut [u8]) -> usize
-    ensures { λ r. ⌜ r ≤ length (now (line .entry)) ⌝ }
-    ensures { λ r. ⌜ r / 2 ≤ length (now (out .entry)) ⌝ }
+// Decodes the field at the front of `line`, which ends at the first space, to `out`, and says whether
+// it fills `out`: what follows the space then begins at 2 * out.len() + 1.
+pub(crate) fn filled(line: &[u8], out: &mut [u8]) -> bool
+    ensures { λ r. ⌜ (r ≡ true → 2 * length (now (out .entry)) < length (now (line .entry))) ⌝ }
 {
-    let Decoded::Bytes(count) = text::hex::decode_field(line, b' ', out) else {
-        return 0;
+    let Decoded::Bytes(n) = text::hex::decode_field(line, b' ', out) else {
+        return false;
     };
-    2 * count + 1
+    n == out.len()
 }
 
 // Writes a block as a line.

@@ -4,7 +4,7 @@
 //
 //     x a             a times x
 //     m a b           the product of a and b
-//     s r a1 .. an    the keyed sum of the blocks a1 .. an, n from 0 on, with the key r
+//     s r a1 .. an    the sum of a1 times r^n down to an times r, n from 0 on
 //     ae k a          a enciphered by AES-128 under the key k
 //     ad k a          a deciphered
 //     he k t d        d enciphered by HCH under the key k and the tweak t
@@ -24,6 +24,8 @@ use blocks::block::Block;
 use blocks::field;
 use libc::STDIN_FILENO;
 use libc::STDOUT_FILENO;
+use text::hex::Decoded;
+use text::part::Kept;
 
 // The most characters that a line may have in front of its line feed.
 const LIMIT: usize = 16384;
@@ -36,7 +38,7 @@ const BYTES: usize = LIMIT / 2;
 fn main() {
     let mut line = [0u8; LIMIT];
     let mut chunk = io::large_buffer();
-    let mut count = 0;
+    let mut kept = Kept::Characters(0);
     let mut turns = u64::MAX;
     while turns > 0 {
         let got = libc::read(STDIN_FILENO, &mut chunk);
@@ -44,36 +46,48 @@ fn main() {
         if n == 0 {
             break;
         }
-        count = lines(&mut line, count, &chunk[..n]);
+        let next = lines(&mut line, kept, &chunk[..n]);
+        kept = next;
         turns -= 1;
     }
-    if count > 0 {
-        answer(&line, count);
-    }
+    last(&line, kept);
 }
 
-// Goes on with the line under way, of `count` characters, answers it where it ends, and so with each
-// that follows. The number of characters of the last, which has not ended, is returned.
-fn lines(line: &mut [u8], count: usize, chunk: &[u8]) -> usize {
-    let mut n = count;
+// Goes on with the line under way, answers it where it ends, and so with each that follows. What is
+// kept of the last, which has not ended, is returned.
+fn lines(line: &mut [u8], kept: Kept, chunk: &[u8]) -> Kept {
+    let mut kept = kept;
     let mut at = 0;
     while at < chunk.len() {
-        let end = text::part::find(chunk, at, b'\n');
-        n = text::part::append(line, n, &chunk[at..end]);
+        let end = bytes::scan::find(chunk, at, chunk.len(), b'\n');
+        let more = text::part::append(line, kept, &chunk[at..end]);
+        kept = more;
         if end < chunk.len() {
-            answer(line, n);
-            n = 0;
+            answer(line, kept);
+            kept = Kept::Characters(0);
         }
         at = end + 1;
     }
-    n
+    kept
 }
 
-// Answers the line in the first `count` bytes; a count past them is a line that was too long.
-fn answer(line: &[u8], count: usize) {
-    if count <= line.len() {
-        if reply(&line[0..count]) {
+// Answers a last line that lacks its line feed; after a final line feed there is none.
+fn last(line: &[u8], kept: Kept) {
+    if let Kept::Characters(n) = kept {
+        if n == 0 {
             return;
+        }
+    }
+    answer(line, kept);
+}
+
+// Answers the line that is kept.
+fn answer(line: &[u8], kept: Kept) {
+    if let Kept::Characters(n) = kept {
+        if n <= line.len() {
+            if reply(&line[0..n]) {
+                return;
+            }
         }
     }
     io::write_all(STDOUT_FILENO, b"no\n");
@@ -81,7 +95,7 @@ fn answer(line: &[u8], count: usize) {
 
 // Writes the answer to a line and says so, or writes nothing. The command ends at the first space, and its fields come after.
 fn reply(line: &[u8]) -> bool {
-    let end = text::part::find(line, 0, b' ');
+    let end = bytes::scan::find(line, 0, line.len(), b' ');
     if end >= line.len() {
         return false;
     }
@@ -98,19 +112,20 @@ fn run(command: &[u8], rest: &[u8]) -> bool {
         }
     }
     let mut data = [0u8; BYTES];
-    let n = fields::blocks_from(rest, &mut data);
+    let Decoded::Bytes(n) = fields::blocks_from(rest, &mut data) else {
+        return false;
+    };
     run_blocks(command, &data[0..n])
 }
 
 // A command under a key of any length.
 fn run_keyed(scheme: u8, way: u8, rest: &[u8]) -> bool {
     let mut key = [0u8; BYTES];
-    let next = fields::first(rest, &mut key);
-    if next == 0 {
+    let Decoded::Bytes(n) = text::hex::decode_field(rest, b' ', &mut key) else {
         return false;
-    }
-    let key = &key[0..next / 2];
-    let rest = &rest[next..];
+    };
+    let key = &key[0..n];
+    let rest = &rest[2 * n + 1..];
     if scheme == b'h' {
         return message::reply(way, key, rest);
     }
@@ -152,19 +167,20 @@ fn ring(command: u8, data: &[u8]) -> bool {
     false
 }
 
-// A block under a key, one way or the other. The key is the first block, of which alone it is expanded.
+// A block under a key, one way or the other. The key is the first block.
 fn aes(direction: u8, data: &[u8]) -> bool {
     if data.len() != 32 {
         return false;
     }
-    let key = ExpandedKey::new(data);
+    let expansion = ExpandedKey::new(&data[0..16]);
+    let expanded = expansion.expanded;
     let block = Block::read(data, 16);
     if direction == b'e' {
-        fields::put_block(key.encipher(block));
+        fields::put_block(expanded.encipher(block));
         return true;
     }
     if direction == b'd' {
-        fields::put_block(key.decipher(block));
+        fields::put_block(expanded.decipher(block));
         return true;
     }
     false

@@ -4,23 +4,23 @@ use crate::fields;
 use blocks::block::Block;
 use libc::STDOUT_FILENO;
 use pack::Opened;
+use text::hex::Decoded;
 
 // Answers a command of a pack behind its key and says so, or writes nothing. Two numbers come first, of 16 and 8 digits and a
 // space each. The last field ends with the line: a space is no digit, so a fifth is refused here.
 pub(crate) fn reply(way: u8, key: &[u8], rest: &[u8]) -> bool {
     let mut pack = [0u8; 8];
-    if fields::first(rest, &mut pack) != 17 {
+    if !fields::filled(rest, &mut pack) {
         return false;
     }
     let mut place = [0u8; 4];
-    if fields::first(&rest[17..], &mut place) != 9 {
+    if !fields::filled(&rest[17..], &mut place) {
         return false;
     }
     let mut bytes = [0u8; BYTES];
-    let n = fields::field(&rest[26..], &mut bytes);
-    if n > BYTES {
+    let Decoded::Bytes(n) = text::hex::decode(&rest[26..], &mut bytes) else {
         return false;
-    }
+    };
     let pack = Block::read(&pack, 0).hi;
     let place = Block::read(&place, 0).hi >> 32;
     run(way, key, pack, place as u32, &mut bytes[0..n])

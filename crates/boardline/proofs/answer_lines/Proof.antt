@@ -5,16 +5,16 @@ use Prim.Native.Nat.{_-_, _≤_, _<_}
 use native.Mathlib.Omega.{arith}
 use lib.ListN.{length, take, drop, length-take, length-drop}
 use denote.Ref.{now}
-use Rattle.line.proofs.Steps.{used}
+use Rattle.line.proofs.Used.{used}
 use Rattle.line.proofs.Written.{written-within}
 use Rattle.boardline.proofs.answer_lines.Statement.{statement}
 use Rattle.boardline.proofs.answer_lines.Tie as tie
 
 abbrev Inv-loop : tie.InvT-loop
-Inv-loop kept₀ count chunk out₀ n₀ at₀ kept out n at = at ≤ length chunk
+Inv-loop line₀ chunk out₀ kept₀ at₀ line out kept at = at ≤ length chunk
 
 abbrev μ-loop : tie.MeasureT-loop
-μ-loop kept₀ count chunk out₀ n₀ at₀ kept out n at = length chunk - at
+μ-loop line₀ chunk out₀ kept₀ at₀ line out kept at = length chunk - at
 
 -- how much a call uses up
 uses : (c : tie.After-next Inv-loop μ-loop)

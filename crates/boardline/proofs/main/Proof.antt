@@ -9,10 +9,10 @@ use Rattle.boardline.proofs.main.Statement.{statement}
 use Rattle.boardline.proofs.main.Tie as tie
 
 abbrev Inv-loop : tie.InvT-loop
-Inv-loop kept₀ out₀ chunk₀ count₀ turns₀ t10 kept out chunk count turns = length chunk ≡ 65536
+Inv-loop line₀ out₀ chunk₀ kept₀ turns₀ t10 line out chunk kept turns = length chunk ≡ 65536
 
 abbrev μ-loop : tie.MeasureT-loop
-μ-loop kept₀ out₀ chunk₀ count₀ turns₀ t10 kept out chunk count turns = turns
+μ-loop line₀ out₀ chunk₀ kept₀ turns₀ t10 line out chunk kept turns = turns
 
 large-buffer-requires : tie.Need-large-buffer-requires Inv-loop μ-loop
 large-buffer-requires c κs = search needs

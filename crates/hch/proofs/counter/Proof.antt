@@ -11,18 +11,19 @@ use Rattle.blocks.specs.Counter.{maskedBytes}
 use Rattle.blocks.specs.Inner.{value, under}
 use Rattle.blocks.proofs.Counter.{masked-nil, masked-next}
 use Rattle.strings.proofs.Place.{length-overwrite}
-use Rattle.hch.specs.Hch.{bin, ctrBytes}
+use Rattle.hch.specs.Hch.{bin}
+use Rattle.hch.specs.Inner.{ctrBytes}
 use Rattle.hch.proofs.counter.Statement.{statement}
 use Rattle.hch.proofs.counter.Tie as tie
 
 abbrev Inv-loop : tie.InvT-loop
-Inv-loop key S data₀ at₀ s at =
-    (take at s ++ maskedBytes (λ i. under key .E (value S ⊕ bin i)) (at / 16 + 1) (drop at s)
-    ≡ maskedBytes (λ i. under key .E (value S ⊕ bin i)) 1 data₀)
-    × (length s ≡ length data₀)
+Inv-loop expanded S message₀ at₀ s at =
+    (take at s ++ maskedBytes (λ i. under expanded .E (value S ⊕ bin i)) (at / 16 + 1) (drop at s)
+    ≡ maskedBytes (λ i. under expanded .E (value S ⊕ bin i)) 1 message₀)
+    × (length s ≡ length message₀)
 
 abbrev μ-loop : tie.MeasureT-loop
-μ-loop key S data₀ at₀ s at = length s - at
+μ-loop expanded S message₀ at₀ s at = length s - at
 
 loop-holds : tie.Need-loop-holds Inv-loop μ-loop
 loop-holds c = (refl, refl)
@@ -34,7 +35,7 @@ add-at : tie.Need-add-at Inv-loop μ-loop
 add-at c = omega (arith, c .before .before .before .before .before .loop .inv .1)
 
 loop-less : tie.Need-loop-less Inv-loop μ-loop
-loop-less c = omega (arith, c .before .«data» .given)
+loop-less c = omega (arith, c .before .message .given)
 
 loop-again : tie.Need-loop-again Inv-loop μ-loop
 loop-again c =
@@ -44,7 +45,7 @@ loop-again c =
     let args = turn .before .before .before .args in
     let next : (l .at + 16) / 16 + 1 ≡ suc (l .at / 16 + 1) = omega arith in (
       rw (m .mask-block .ensures, next)
-          (masked-next (λ i. under (args .key) .E (value (args .s) ⊕ bin i)) (l .at / 16 + 1) (l .at) (l .«data») (turn .loop-test .taken)
+          (masked-next (λ i. under (args .expanded) .E (value (args .s) ⊕ bin i)) (l .at / 16 + 1) (l .at) (l .message) (turn .loop-test .taken)
           ∙ l .inv .0),
       rw (m .mask-block .ensures, length-overwrite) (l .inv .1),
     )
@@ -57,10 +58,10 @@ unfolding ctrBytes
 returns c =
     let l = c .before .loop in
     rw (
-      take-all (l .at) (l .«data») (c .loop-test .left),
-      drop-of-length-le (l .«data») (c .loop-test .left),
+      take-all (l .at) (l .message) (c .loop-test .left),
+      drop-of-length-le (l .message) (c .loop-test .left),
       masked-nil _ (l .at / 16 + 1),
-      append-nil (l .«data»),
+      append-nil (l .message),
     ) at (l .inv .0)
 
 pub counter-spec : {M : Type 1} → statement M

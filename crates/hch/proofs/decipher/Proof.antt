@@ -1,13 +1,15 @@
 -- The tests, and the work where they are passed. What is left is then the one message that enciphers to what was lent.
 -- Assumes nothing.
-use mathlib.Core.Path.{_≡_, refl, sym, _∙_}
+use mathlib.Core.Path.{_≡_, refl, sym, ap, _∙_}
 use borrow.Author.Needs.{needs}
 use denote.Ref.{now}
 use lib.ListN.{length}
 use Rattle.blocks.specs.Aes.{aes}
 use Rattle.blocks.proofs.Blocks.{block-whole}
 use Rattle.hch.specs.Hch.{deciphered}
-use Rattle.hch.proofs.Call.{admitted, not-done, refused}
+use Rattle.strings.specs.Call.{numberOf}
+use Rattle.strings.proofs.Refusals.{refused-some, refused-leaves}
+use Rattle.hch.proofs.Call.{admitted}
 use Rattle.hch.proofs.Theorems.{one-plaintext}
 use Rattle.hch.proofs.decipher.Statement.{statement}
 use Rattle.hch.proofs.decipher.Tie as tie
@@ -26,10 +28,10 @@ read-requires c κs = search needs
 
 decipher-message-requires : tie.Need-decipher-message-requires
 decipher-message-requires c κs =
-    let told = c .before .before .before in
+    let told = c .before .before .before .before in
     let judged = told .before .before in
     let args = judged .before .before .before .before .before .args in
-    let a = admitted (now (args .key)) (now (args .tweak)) (now (args .«data»)) (sym (judged .judge .ensures) ∙ told .enum-told .given .1) in
+    let a = admitted (now (args .key)) (now (args .tweak)) (now (args .message)) (ap numberOf (sym (judged .judge .ensures) ∙ told .enum-told .given .1)) in
     (a .at-least, a .at-most)
 
 same-length : tie.Need-same-length
@@ -40,37 +42,36 @@ unfolding deciphered aes
 returns c =
     let b = c .before .before in
     let read = b .before .before in
-    let new = read .before in
+    let new = read .before .before in
     let told = new .before in
     let judged = told .before .before in
     let lent = judged .before .before in
     let args = lent .before .before .before .args in
     let done = told .enum-told .given .1 in
-    let a = admitted (now (args .key)) (now (args .tweak)) (now (args .«data»)) (sym (judged .judge .ensures) ∙ done) in
-    let left : b .decipher-message .last .1 .1 .0 ≡ deciphered (now (args .key)) (now (args .tweak)) (now (args .«data»)) =
-    rw (b .decipher-message .ensures, new .new .ensures, read .read .ensures, block-whole (now (args .tweak)) (a .tweak-length)) in (
+    let a = admitted (now (args .key)) (now (args .tweak)) (now (args .message)) (ap numberOf (sym (judged .judge .ensures) ∙ done)) in
+    let left : b .decipher-message .last .1 .1 .0 ≡ deciphered (now (args .key)) (now (args .tweak)) (now (args .message)) =
+    rw (b .decipher-message .ensures, new .new .ensures .1, a .is-key, read .read .ensures, block-whole (now (args .tweak)) (a .tweak-length)) in (
       judged .judge .ensures,
       (
         rw (done, left),
         λ e.
             rw left
-            (one-plaintext (now (args .key)) (now (args .tweak)) (length (now (args .«data»)))
-            (a .tweak-length, λ i. lent .before .shared-slice-known2 .given i .fits) (a .at-least) (now (args .«data»))
+            (one-plaintext (now (args .key)) (now (args .tweak)) (length (now (args .message)))
+            (a .tweak-length, λ i. lent .before .shared-slice-known2 .given i .fits) (a .at-least) (now (args .message))
             (refl, λ i. lent .slice-known .given i .fits)),
       ),
     )
+
+enum-told-2 : tie.Need-enum-told-2
+enum-told-2 c = search needs
 
 same-length-2 : tie.Need-same-length-2
 same-length-2 c = search needs
 
 returns-2 : tie.Need-returns-2
-returns-2 c = (
-  c .before .judge .ensures,
-  (
-    refused (c .before .judge .result) _ _ (c .match .keys2),
-    λ e. absurd (not-done (c .before .judge .result) (c .match .keys2) e),
-  ),
-)
+returns-2 c =
+    let why = c .enum-told2 .given .1 in
+    (c .before .before .judge .ensures, (refused-leaves why _ _, λ e. absurd (refused-some why e)))
 
 pub decipher-spec : {M : Type 1} → statement M
 decipher-spec =
@@ -81,6 +82,7 @@ decipher-spec =
     new-requires
     read-requires
     decipher-message-requires
+    enum-told-2
     same-length
     returns
     same-length-2

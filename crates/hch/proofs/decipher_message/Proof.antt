@@ -4,7 +4,7 @@ use borrow.Author.Needs.{needs}
 use denote.Ref.{now}
 use Rattle.blocks.specs.BlockField.{timesX, powerSum}
 use Rattle.blocks.specs.Inner.{value, under}
-use Rattle.hch.proofs.Steps.{deciphering}
+use Rattle.hch.proofs.LentBytes.{deciphering}
 use Rattle.hch.proofs.decipher_message.Statement.{statement}
 use Rattle.hch.proofs.decipher_message.Tie as tie
 
@@ -46,7 +46,7 @@ returns c =
     let l = tx .before in
     let e = l .before in
     let start = e .before .before in
-    let cipher = under (start .args .key) in
+    let cipher = under (start .args .expanded) in
     simp (
       f .finish .ensures,
       x .xor .ensures,
@@ -57,7 +57,7 @@ returns c =
       l .hash-q .ensures,
       e .encipher .ensures,
     )
-    (deciphering (cipher .E) (cipher .D) timesX powerSum (value (start .args .tweak)) (now (start .args .«data»)) (start .pre .0))
+    (deciphering (cipher .E) (cipher .D) timesX powerSum (value (start .args .tweak)) (now (start .args .message)) (start .pre .0))
 
 pub decipher-message-spec : {M : Type 1} → statement M
 decipher-message-spec =

@@ -1,12 +1,14 @@
 -- The tests, and the work where they are passed: the key expanded and the tweak read as a block.
 -- Assumes nothing.
-use mathlib.Core.Path.{sym, _∙_}
+use mathlib.Core.Path.{sym, ap, _∙_}
 use borrow.Author.Needs.{needs}
 use denote.Ref.{now}
 use Rattle.blocks.specs.Aes.{aes}
 use Rattle.blocks.proofs.Blocks.{block-whole}
 use Rattle.hch.specs.Hch.{enciphered}
-use Rattle.hch.proofs.Call.{admitted, refused}
+use Rattle.strings.specs.Call.{numberOf}
+use Rattle.strings.proofs.Refusals.{refused-leaves}
+use Rattle.hch.proofs.Call.{admitted}
 use Rattle.hch.proofs.encipher.Statement.{statement}
 use Rattle.hch.proofs.encipher.Tie as tie
 
@@ -24,10 +26,10 @@ read-requires c κs = search needs
 
 encipher-message-requires : tie.Need-encipher-message-requires
 encipher-message-requires c κs =
-    let told = c .before .before .before in
+    let told = c .before .before .before .before in
     let judged = told .before .before in
     let args = judged .before .before .before .before .before .args in
-    let a = admitted (now (args .key)) (now (args .tweak)) (now (args .«data»)) (sym (judged .judge .ensures) ∙ told .enum-told .given .1) in
+    let a = admitted (now (args .key)) (now (args .tweak)) (now (args .message)) (ap numberOf (sym (judged .judge .ensures) ∙ told .enum-told .given .1)) in
     (a .at-least, a .at-most)
 
 same-length : tie.Need-same-length
@@ -38,21 +40,24 @@ unfolding enciphered aes
 returns c =
     let b = c .before .before in
     let read = b .before .before in
-    let new = read .before in
+    let new = read .before .before in
     let told = new .before in
     let judged = told .before .before in
     let args = judged .before .before .before .before .before .args in
     let done = told .enum-told .given .1 in
-    let a = admitted (now (args .key)) (now (args .tweak)) (now (args .«data»)) (sym (judged .judge .ensures) ∙ done) in (
+    let a = admitted (now (args .key)) (now (args .tweak)) (now (args .message)) (ap numberOf (sym (judged .judge .ensures) ∙ done)) in (
       judged .judge .ensures,
-      rw (done, b .encipher-message .ensures, new .new .ensures, read .read .ensures, block-whole (now (args .tweak)) (a .tweak-length)),
+      rw (done, b .encipher-message .ensures, new .new .ensures .1, a .is-key, read .read .ensures, block-whole (now (args .tweak)) (a .tweak-length)),
     )
+
+enum-told-2 : tie.Need-enum-told-2
+enum-told-2 c = search needs
 
 same-length-2 : tie.Need-same-length-2
 same-length-2 c = search needs
 
 returns-2 : tie.Need-returns-2
-returns-2 c = (c .before .judge .ensures, refused (c .before .judge .result) _ _ (c .match .keys2))
+returns-2 c = (c .before .before .judge .ensures, refused-leaves (c .enum-told2 .given .1) _ _)
 
 pub encipher-spec : {M : Type 1} → statement M
 encipher-spec =
@@ -63,6 +68,7 @@ encipher-spec =
     new-requires
     read-requires
     encipher-message-requires
+    enum-told-2
     same-length
     returns
     same-length-2

@@ -4,7 +4,7 @@ use borrow.Author.Needs.{needs}
 use denote.Ref.{now}
 use Rattle.blocks.specs.BlockField.{timesX, powerSum}
 use Rattle.blocks.specs.Inner.{value, under}
-use Rattle.hch.proofs.Steps.{enciphering}
+use Rattle.hch.proofs.LentBytes.{enciphering}
 use Rattle.hch.proofs.encipher_message.Statement.{statement}
 use Rattle.hch.proofs.encipher_message.Tie as tie
 
@@ -45,7 +45,7 @@ returns c =
     let l = r .before .before in
     let e = l .before in
     let start = e .before .before in
-    let cipher = under (start .args .key) in
+    let cipher = under (start .args .expanded) in
     simp (
       f .finish .ensures,
       x .xor .ensures,
@@ -56,7 +56,7 @@ returns c =
       l .hash-q .ensures,
       e .encipher .ensures,
     )
-    (enciphering (cipher .E) timesX powerSum (value (start .args .tweak)) (now (start .args .«data»)) (start .pre .0))
+    (enciphering (cipher .E) timesX powerSum (value (start .args .tweak)) (now (start .args .message)) (start .pre .0))
 
 pub encipher-message-spec : {M : Type 1} → statement M
 encipher-message-spec =

@@ -4,7 +4,7 @@ use borrow.Author.Needs.{needs}
 use denote.Ref.{now}
 use Rattle.blocks.specs.BlockField.{powerSum}
 use Rattle.blocks.specs.Inner.{value, under}
-use Rattle.hch.proofs.Steps.{finished}
+use Rattle.hch.proofs.LentBytes.{finished}
 use Rattle.hch.proofs.finish.Statement.{statement}
 use Rattle.hch.proofs.finish.Tie as tie
 
@@ -41,7 +41,7 @@ returns c =
     let start = e .before .before in
     let args = start .args in
     simp (w .write .ensures, h .hash .ensures, k .counter .ensures, e .encipher .ensures)
-    (finished (under (args .key) .E) powerSum (value (args .r)) (value (args .q)) (value (args .i)) (value (args .first)) (now (args .«data»)) (start .pre))
+    (finished (under (args .expanded) .E) powerSum (value (args .r)) (value (args .q)) (value (args .i)) (value (args .first)) (now (args .message)) (start .pre))
 
 pub finish-spec : {M : Type 1} → statement M
 finish-spec =

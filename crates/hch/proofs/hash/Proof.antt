@@ -32,7 +32,7 @@ returns c =
       c .xor2 .ensures,
       c .before .power-sum .ensures,
       c .before .before .before .xor .ensures,
-      part-behind 16 (now (c .before .before .before .before .before .args .«data»)),
+      part-behind 16 (now (c .before .before .before .before .before .args .message)),
     )
 
 pub hash-spec : {M : Type 1} → statement M

@@ -8,7 +8,7 @@ use denote.Ref.{now}
 use lib.ListN.{take, drop}
 use Rattle.strings.specs.Bytes.{bytes, equal}
 use Rattle.strings.proofs.Place.{rest-next}
-use Rattle.layout.proofs.Steps.{differ-next}
+use Rattle.layout.proofs.Comparison.{differ-next}
 use lib.Dec.{eqb}
 use Rattle.layout.proofs.difference.Statement.{statement}
 use Rattle.layout.proofs.difference.Tie as tie

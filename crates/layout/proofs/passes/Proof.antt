@@ -10,7 +10,7 @@ use lib.Dec.{eqb}
 use lib.ListN.{take, drop}
 use Rattle.strings.specs.Bytes.{bytes, equal}
 use Rattle.layout.specs.Layout.{used as usedOf, passes as passesCheck}
-use Rattle.layout.proofs.Steps.{none-of-four}
+use Rattle.layout.proofs.Comparison.{none-of-four}
 use Rattle.layout.proofs.Check.{passes-parts}
 use Rattle.layout.proofs.passes.Statement.{statement}
 use Rattle.layout.proofs.passes.Tie as tie

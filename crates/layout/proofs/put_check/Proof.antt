@@ -37,7 +37,7 @@ returns c =
     let start = p1 .before .before .before in
     let a = start .args in
     rw (p5 .put5 .ensures, p4 .put4 .ensures, p3 .put3 .ensures, p2 .put2 .ensures, p1 .put .ensures)
-    (check-written (a .u) (a .pack) (a .place) (now (a .block)) (start .pre .0))
+    (check-written (a .u) (a .pack) (a .place) (now (a .block)) (start .pre))
 
 pub put-check-spec : {M : Type 1} → statement M
 put-check-spec =

@@ -1,9 +1,11 @@
 -- Both lengths are tested; then the payload and its check are written.
 -- Assumes nothing.
+use native.Mathlib.Omega.{arith}
 use borrow.Author.Needs.{needs}
 use borrow.Author.Tests.{le-leb, lt-leb, eq-eqb, ne-eqb}
 use denote.Ref.{now}
-use Rattle.layout.specs.Layout.{fits}
+use Rattle.strings.proofs.Place.{copied-front}
+use Rattle.layout.specs.Inner.{fits}
 use Rattle.layout.proofs.Check.{plain-written}
 use Rattle.layout.proofs.write.Statement.{statement}
 use Rattle.layout.proofs.write.Tie as tie
@@ -35,7 +37,8 @@ returns-3 c =
     let a = d1 .before .before .before .args in
     rw (
       checked .put-check .ensures,
-      copied .copy .ensures,
+      copied .copy .ensures .1,
+      copied-front (now (a .payload)) (now (a .block)) (omega (arith, d1 .if1 .left, d2 .if2 .left)),
       plain-written (now (a .payload)) (now (a .block)) (a .pack) (a .place) (d1 .if1 .left) (d2 .if2 .left),
       le-leb _ 496 (d1 .if1 .left),
       eq-eqb _ 512 (d2 .if2 .left),

@@ -1,30 +1,25 @@
--- `vectors::lines` is safe and ends: what `find` answers is within the chunk (`before-within`) and not in front of `at`, so each turn leaves less of
--- the chunk, which is the measure.
-use Prim.Native.Nat.{_-_, _≤_}
+-- `vectors::lines` is safe and ends: what `find` answers is within the chunk and not in front of `at`, so each turn leaves less of the chunk, which is
+-- the measure.
+-- Assumes nothing.
+use borrow.Author.Needs.{needs}
+use Prim.Native.Nat.{_-_}
 use mathlib.Core.Path.{_≡_, refl}
-use native.Mathlib.Nat.{le-of-lt}
 use native.Mathlib.Omega.{arith}
 use lib.ListN.{length}
-use denote.Ref.{now}
-use Rattle.text.proofs.Parts.{before-within}
 use Rattle.vectors.proofs.lines.Statement.{statement}
 use Rattle.vectors.proofs.lines.Tie as tie
 
 abbrev Inv-loop : tie.InvT-loop
-Inv-loop line₀ count chunk n₀ at₀ line n at = length line ≡ length line₀
+Inv-loop line₀ chunk kept₀ at₀ line kept at = length line ≡ length line₀
 
 abbrev μ-loop : tie.MeasureT-loop
-μ-loop line₀ count chunk n₀ at₀ line n at = length chunk - at
-
--- the part of the line ends within the chunk
-within : (c : tie.After-find Inv-loop μ-loop) → c .find .result ≤ length (now (c .before .before .before .before .before .args .chunk))
-within c = rw (c .find .ensures) (before-within 10 (now (c .before .before .before .before .before .args .chunk)) (c .before .before .loop .at) (le-of-lt (c .before .loop-test .taken)))
+μ-loop line₀ chunk kept₀ at₀ line kept at = length chunk - at
 
 loop-holds : tie.Need-loop-holds Inv-loop μ-loop
 loop-holds c = refl
 
 find-requires : tie.Need-find-requires Inv-loop μ-loop
-find-requires c κs = tt
+find-requires c κs = search needs
 
 sub-append : tie.Need-sub-append Inv-loop μ-loop
 sub-append c = omega arith
@@ -33,7 +28,7 @@ part-append-start : tie.Need-part-append-start Inv-loop μ-loop
 part-append-start c = omega arith
 
 part-append-end : tie.Need-part-append-end Inv-loop μ-loop
-part-append-end c = within (c .before)
+part-append-end c = omega arith
 
 append-requires : tie.Need-append-requires Inv-loop μ-loop
 append-requires c κs = tt
@@ -42,7 +37,7 @@ answer-requires : tie.Need-answer-requires Inv-loop μ-loop
 answer-requires c κs = tt
 
 add-at : tie.Need-add-at Inv-loop μ-loop
-add-at c = omega (arith, within (c .before .before .before .before .before .before))
+add-at c = omega arith
 
 loop-less : tie.Need-loop-less Inv-loop μ-loop
 loop-less c = omega arith

@@ -7,10 +7,10 @@ use Rattle.vectors.proofs.main.Statement.{statement}
 use Rattle.vectors.proofs.main.Tie as tie
 
 abbrev Inv-loop : tie.InvT-loop
-Inv-loop line₀ chunk₀ count₀ turns₀ line chunk count turns = (length line ≡ 16384) × (length chunk ≡ 65536)
+Inv-loop line₀ chunk₀ kept₀ turns₀ line chunk kept turns = (length line ≡ 16384) × (length chunk ≡ 65536)
 
 abbrev μ-loop : tie.MeasureT-loop
-μ-loop line₀ chunk₀ count₀ turns₀ line chunk count turns = turns
+μ-loop line₀ chunk₀ kept₀ turns₀ line chunk kept turns = turns
 
 large-buffer-requires : tie.Need-large-buffer-requires Inv-loop μ-loop
 large-buffer-requires c κs = tt
@@ -51,17 +51,14 @@ loop-less c = omega arith
 loop-again : tie.Need-loop-again Inv-loop μ-loop
 loop-again c = (omega arith, omega arith)
 
-slice-aggregate-answer : tie.Need-slice-aggregate-answer Inv-loop μ-loop
-slice-aggregate-answer c = omega arith
+slice-aggregate-last : tie.Need-slice-aggregate-last Inv-loop μ-loop
+slice-aggregate-last c = omega arith
 
-answer-requires : tie.Need-answer-requires Inv-loop μ-loop
-answer-requires c κs = tt
+last-requires : tie.Need-last-requires Inv-loop μ-loop
+last-requires c κs = tt
 
 returns : tie.Need-returns Inv-loop μ-loop
 returns c = tt
-
-returns-2 : tie.Need-returns-2 Inv-loop μ-loop
-returns-2 c = tt
 
 pub main-spec : {M : Type 1} → statement M
 main-spec =
@@ -82,7 +79,6 @@ main-spec =
     sub-turns
     loop-less
     loop-again
-    slice-aggregate-answer
-    answer-requires
-    returns
-    returns-2)
+    slice-aggregate-last
+    last-requires
+    returns)

@@ -3,52 +3,67 @@
 use mathlib.Core.Path.{sym, _∙_}
 use native.Mathlib.Omega.{arith}
 use denote.Ref.{now}
-use Rattle.blocks.proofs.Words.{own-word, next-word}
+use Rattle.strings.specs.Xor.{_⊕_}
+use Rattle.blocks.proofs.Words.{read-fits, read-own, own-word, next-word}
 use borrow.Author.Needs.{needs}
 use Rattle.blocks.proofs.aes.key_word.Statement.{statement}
 use Rattle.blocks.proofs.aes.key_word.Tie as tie
 
-own-word-requires : tie.Need-own-word-requires
-own-word-requires c κs = search needs
+mul-get : tie.Need-mul-get
+mul-get c = search needs
+
+get-requires : tie.Need-get-requires
+get-requires c κs = search needs
+
+cast-result : tie.Need-cast-result
+cast-result c =
+    let known = c .before .before in
+    let a = known .before .args in
+    record { fits = read-fits (a .i) (now (a .key)) (λ k. known .shared-slice-known .given k .fits) (c .get .ensures) }
 
 returns : tie.Need-returns
 returns c =
-    let a = c .before .before .before .args in
-    c .own-word .ensures ∙ sym (own-word 4 (now (a .key)) (a .i) (now (a .words)) (omega arith))
+    let known = c .before .before in
+    let a = known .before .args in
+    c .get .ensures ∙ read-own (a .i) (now (a .key)) (λ k. known .shared-slice-known .given k .fits)
+    ∙ sym (own-word 4 (now (a .key)) (a .i) (now (a .words)) (omega arith))
 
-mul-next-word : tie.Need-mul-next-word
-mul-next-word c = search needs
+mul-result : tie.Need-mul-result
+mul-result c = search needs
 
-element-copy-out-next-word : tie.Need-element-copy-out-next-word
-element-copy-out-next-word c = search needs
+element-copy-out-result : tie.Need-element-copy-out-result
+element-copy-out-result c = search needs
 
-sub-next-word : tie.Need-sub-next-word
-sub-next-word c = search needs
+sub-temp : tie.Need-sub-temp
+sub-temp c = search needs
 
-mul-next-word-2 : tie.Need-mul-next-word-2
-mul-next-word-2 c = search needs
+mul-temp : tie.Need-mul-temp
+mul-temp c = search needs
 
-element-copy-out-next-word-2 : tie.Need-element-copy-out-next-word-2
-element-copy-out-next-word-2 c = search needs
+element-copy-out-temp : tie.Need-element-copy-out-temp
+element-copy-out-temp c = search needs
 
-next-word-requires : tie.Need-next-word-requires
-next-word-requires c κs = search needs
+temp-requires : tie.Need-temp-requires
+temp-requires c κs = search needs
 
 returns-2 : tie.Need-returns-2
+unfolding _⊕_
 returns-2 c =
     let a = c .before .before .before .before .before .args in
-    c .next-word .ensures ∙ sym (next-word 4 (now (a .key)) (a .i) (now (a .words)) (omega arith))
+    rw (c .temp .ensures, next-word 4 (now (a .key)) (a .i) (now (a .words)) (omega arith))
 
 pub key-word-spec : {M : Type 1} → statement M
 key-word-spec =
     tie.close
     (tie.spec
-    own-word-requires
+    mul-get
+    get-requires
+    cast-result
     returns
-    mul-next-word
-    element-copy-out-next-word
-    sub-next-word
-    mul-next-word-2
-    element-copy-out-next-word-2
-    next-word-requires
+    mul-result
+    element-copy-out-result
+    sub-temp
+    mul-temp
+    element-copy-out-temp
+    temp-requires
     returns-2)

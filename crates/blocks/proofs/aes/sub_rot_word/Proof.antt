@@ -6,52 +6,53 @@ use mathlib.Core.List.{List}
 use denote.Ref.{now}
 use lib.ListN.{getD}
 use Rattle.blocks.specs.Inner.{Table}
-use Rattle.blocks.specs.Aes.{sBox, byteOf}
+use Rattle.blocks.specs.Aes.{sBox, word, byteOf}
 use Rattle.blocks.proofs.Words.{byteOf-below, sub-rot}
 use borrow.Author.Needs.{needs}
 use Rattle.blocks.proofs.aes.sub_rot_word.Statement.{statement}
 use Rattle.blocks.proofs.aes.sub_rot_word.Tie as tie
 
-entry : (t : List ℕ) → Table sBox t → (w i : ℕ) {b l : ℕ} → b ≡ byteOf w i → l ≡ getD t b 0 → l ≡ sBox (byteOf w i)
-entry t h w i e f = f ∙ rw e (h .entry (byteOf w i) (byteOf-below w i))
+looked-up : (t : List ℕ) → Table sBox t → (w i : ℕ) {b l : ℕ} → b ≡ byteOf w i → l ≡ getD t b 0 → l ≡ sBox (byteOf w i)
+looked-up t h w i e f = f ∙ rw e (h .entry (byteOf w i) (byteOf-below w i))
 
 byte-requires : tie.Need-byte-requires
 byte-requires c κs = search needs
 
-look-requires : tie.Need-look-requires
-look-requires c κs = search needs
+entry-requires : tie.Need-entry-requires
+entry-requires c κs = search needs
 
 byte-requires-2 : tie.Need-byte-requires-2
 byte-requires-2 c κs = search needs
 
-look-requires-2 : tie.Need-look-requires-2
-look-requires-2 c κs = search needs
+entry-requires-2 : tie.Need-entry-requires-2
+entry-requires-2 c κs = search needs
 
 byte-requires-3 : tie.Need-byte-requires-3
 byte-requires-3 c κs = search needs
 
-look-requires-3 : tie.Need-look-requires-3
-look-requires-3 c κs = search needs
+entry-requires-3 : tie.Need-entry-requires-3
+entry-requires-3 c κs = search needs
 
 byte-requires-4 : tie.Need-byte-requires-4
 byte-requires-4 c κs = search needs
 
-look-requires-4 : tie.Need-look-requires-4
-look-requires-4 c κs = search needs
+entry-requires-4 : tie.Need-entry-requires-4
+entry-requires-4 c κs = search needs
 
 word-requires : tie.Need-word-requires
 word-requires c κs = search needs
 
 returns : tie.Need-returns
+unfolding word byteOf
 returns c =
     let a = c .before .before .before .before .before .before .before .before .before .args in
     let h = (c .before .before .before .before .before .before .before .before .before .pre) in
     rw (
       c .word .ensures,
-      entry (now (a .table)) h (a .w) 1 (c .before .before .before .before .before .before .before .before .byte .ensures) (c .before .before .before .before .before .before .before .look .ensures),
-      entry (now (a .table)) h (a .w) 2 (c .before .before .before .before .before .before .byte2 .ensures) (c .before .before .before .before .before .look2 .ensures),
-      entry (now (a .table)) h (a .w) 3 (c .before .before .before .before .byte3 .ensures) (c .before .before .before .look3 .ensures),
-      entry (now (a .table)) h (a .w) 0 (c .before .before .byte4 .ensures) (c .before .look4 .ensures),
+      looked-up (now (a .table)) h (a .w) 1 (c .before .before .before .before .before .before .before .before .byte .ensures) (c .before .before .before .before .before .before .before .entry .ensures),
+      looked-up (now (a .table)) h (a .w) 2 (c .before .before .before .before .before .before .byte2 .ensures) (c .before .before .before .before .before .entry2 .ensures),
+      looked-up (now (a .table)) h (a .w) 3 (c .before .before .before .before .byte3 .ensures) (c .before .before .before .entry3 .ensures),
+      looked-up (now (a .table)) h (a .w) 0 (c .before .before .byte4 .ensures) (c .before .entry4 .ensures),
     )
     (sym (sub-rot (a .w)))
 
@@ -60,12 +61,12 @@ sub-rot-word-spec =
     tie.close
     (tie.spec
     byte-requires
-    look-requires
+    entry-requires
     byte-requires-2
-    look-requires-2
+    entry-requires-2
     byte-requires-3
-    look-requires-3
+    entry-requires-3
     byte-requires-4
-    look-requires-4
+    entry-requires-4
     word-requires
     returns)

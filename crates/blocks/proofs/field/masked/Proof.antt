@@ -1,6 +1,6 @@
 -- Zero less the bit has no digit set, or every digit.
 use mathlib.Core.Path.{_≡_, ap, _∙_}
-use Prim.Native.Nat.{ℕ, zero, suc, _+_, _-_, _%_, _^_, _<_}
+use Prim.Native.Nat.{ℕ, zero, suc, _+_, _-_, _/_, _%_, _^_, _<_}
 use native.Mathlib.Nat.{mod-eq-of-lt}
 use native.Mathlib.Omega.{arith}
 use borrow.Author.Needs.{needs}
@@ -22,8 +22,8 @@ wrapping-sub-u64-requires c κs = search needs
 
 returns : tie.Need-returns
 returns c =
-    by-bit (c .before .args .bit) (c .wrapping-sub-u64 .result) (c .before .args .word) (search needs) (search needs) (search needs)
-    (c .wrapping-sub-u64 .ensures)
+    let a = c .before .args in
+    by-bit (a .high / 2 ^ 63) (c .wrapping-sub-u64 .result) (a .word) (omega arith) (search needs) (search needs) (c .wrapping-sub-u64 .ensures)
 
 pub masked-spec : {M : Type 1} → statement M
 masked-spec = tie.close (tie.spec wrapping-sub-u64-requires returns)

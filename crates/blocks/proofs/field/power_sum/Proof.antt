@@ -20,15 +20,15 @@ use Rattle.blocks.proofs.field.power_sum.Statement.{statement}
 use Rattle.blocks.proofs.field.power_sum.Tie as tie
 
 -- one block more
-next : (K S at : ℕ) (s : List ℕ) → at < length s → horner _·_ K S (blocks (drop at s)) ≡ horner _·_ K ((S ⊕ firstBlock (drop at s)) · K) (blocks (drop (at + 16) s))
+next : (R S at : ℕ) (s : List ℕ) → at < length s → horner _·_ R S (blocks (drop at s)) ≡ horner _·_ R ((S ⊕ firstBlock (drop at s)) · R) (blocks (drop (at + 16) s))
 unfolding horner
-next K S at s h = rw (blocks-cons (drop at s) (rw length-drop (omega arith)), drop-drop 16 at s)
+next R S at s h = rw (blocks-cons (drop at s) (rw length-drop (omega arith)), drop-drop 16 at s)
 
 abbrev Inv-loop : tie.InvT-loop
-Inv-loop key s sum₀ at₀ sum at = horner _·_ (value key) (value sum) (blocks (drop at s)) ≡ horner _·_ (value key) 0 (blocks s)
+Inv-loop r s sum₀ at₀ sum at = horner _·_ (value r) (value sum) (blocks (drop at s)) ≡ horner _·_ (value r) 0 (blocks s)
 
 abbrev μ-loop : tie.MeasureT-loop
-μ-loop key s sum₀ at₀ sum at = length s - at
+μ-loop r s sum₀ at₀ sum at = length s - at
 
 loop-holds : tie.Need-loop-holds Inv-loop μ-loop
 unfolding value
@@ -53,20 +53,20 @@ loop-again : tie.Need-loop-again Inv-loop μ-loop
 loop-again c =
     let l = c .before .before .before .before .loop in
     let args = c .before .before .before .before .before .before .args in
-    let K : ℕ = value (args .key) in
-    let turn : value (c .product .result) ≡ (value (l .sum) ⊕ firstBlock (drop (l .at) (now (args .«data»)))) · K =
-    c .product .ensures ∙ ap (λ (x : ℕ). x · K) (c .before .xor .ensures ∙ ap (λ (x : ℕ). value (l .sum) ⊕ x) (c .before .before .read .ensures)) in
-    rw turn (sym (next K (value (l .sum)) (l .at) (now (args .«data»)) (c .before .before .before .loop-test .taken)) ∙ l .inv)
+    let R : ℕ = value (args .r) in
+    let turn : value (c .product .result) ≡ (value (l .sum) ⊕ firstBlock (drop (l .at) (now (args .s)))) · R =
+    c .product .ensures ∙ ap (λ (x : ℕ). x · R) (c .before .xor .ensures ∙ ap (λ (x : ℕ). value (l .sum) ⊕ x) (c .before .before .read .ensures)) in
+    rw turn (sym (next R (value (l .sum)) (l .at) (now (args .s)) (c .before .before .before .loop-test .taken)) ∙ l .inv)
 
 returns : tie.Need-returns Inv-loop μ-loop
 unfolding horner
 returns c =
     let args = c .before .before .before .args in
-    let s = now (args .«data») in
-    let K = value (args .key) in
+    let s = now (args .s) in
+    let R = value (args .r) in
     let done : blocks (drop (c .before .loop .at) s) ≡ [] = rw (drop-of-length-le s (c .loop-test .left)) blocks-nil in
     (rw done at (c .before .loop .inv))
-    ∙ horner-rule ring-of-blocks K (value-below (args .key) (search needs) (search needs)) (blocks s)
+    ∙ horner-rule ring-of-blocks R (value-below (args .r) (search needs) (search needs)) (blocks s)
     (blocks-below s (λ i. c .before .before .shared-slice-known .given i .fits))
 
 pub power-sum-spec : {M : Type 1} → statement M

@@ -8,7 +8,7 @@ use Rattle.strings.specs.Xor.{_⊕_}
 use Rattle.blocks.specs.Field.{times01, timesX, productN, product}
 use Rattle.blocks.specs.Inner.{value}
 use Rattle.blocks.proofs.Halves.{value-below}
-use Rattle.blocks.proofs.Steps.{product-step, rest-step}
+use Rattle.blocks.proofs.Product.{product-step, rest-step}
 use Rattle.blocks.proofs.field.product.Statement.{statement}
 use Rattle.blocks.proofs.field.product.Tie as tie
 
@@ -30,11 +30,8 @@ loop-holds c =
 times-x-requires : tie.Need-times-x-requires Inv-loop μ-loop
 times-x-requires c κs = search needs
 
-top-requires : tie.Need-top-requires Inv-loop μ-loop
-top-requires c κs = search needs
-
-times-bit-requires : tie.Need-times-bit-requires Inv-loop μ-loop
-times-bit-requires c κs = c .top .ensures .1
+times-top-requires : tie.Need-times-top-requires Inv-loop μ-loop
+times-top-requires c κs = search needs
 
 xor-requires : tie.Need-xor-requires Inv-loop μ-loop
 xor-requires c κs = search needs
@@ -50,17 +47,16 @@ loop-less c = omega arith
 
 loop-again : tie.Need-loop-again Inv-loop μ-loop
 loop-again c =
-    let l = c .before .before .before .before .before .before .loop in
-    let args = c .before .before .before .before .before .before .before .args in
+    let l = c .before .before .before .before .before .loop in
+    let args = c .before .before .before .before .before .before .args in
     let a : ℕ = value (args .a) in
     let b : ℕ = value (args .b) in
-    let turn : l .counter < 128 = omega (arith, c .before .before .before .before .before .loop-test .taken) in
-    let bit = c .before .before .before .top .ensures .0 ∙ ap (λ (x : ℕ). x / 2 ^ 127) (l .inv .2) in (
+    let turn : l .counter < 128 = omega (arith, c .before .before .before .before .loop-test .taken) in (
       omega arith,
       c .before .xor .ensures
           ∙ ap₂ _⊕_
-          (c .before .before .before .before .times-x .ensures ∙ ap (timesX 128 0x87) (l .inv .1))
-          (c .before .before .times-bit .ensures ∙ ap (λ (d : ℕ). times01 d a) bit)
+          (c .before .before .before .times-x .ensures ∙ ap (timesX 128 0x87) (l .inv .1))
+          (c .before .before .times-top .ensures ∙ ap (λ (x : ℕ). times01 (x / 2 ^ 127) a) (l .inv .2))
           ∙ product-step 128 0x87 a b (l .counter) turn,
       c .shifted .ensures ∙ ap (λ (x : ℕ). 2 * x % 2 ^ 128) (l .inv .2) ∙ rest-step 128 b (l .counter),
     )
@@ -82,8 +78,7 @@ product-spec =
     μ-loop
     loop-holds
     times-x-requires
-    top-requires
-    times-bit-requires
+    times-top-requires
     xor-requires
     shifted-requires
     add-counter

@@ -22,11 +22,11 @@ abbrev μ-loop : tie.MeasureT-loop
 loop-holds : tie.Need-loop-holds Inv-loop μ-loop
 loop-holds c = none-filled 16 (λ j. getD (now (c .args .table)) (getD (c .args .t2) j 0) 0) refl
 
-array-read-look : tie.Need-array-read-look Inv-loop μ-loop
-array-read-look c = search needs
+array-read-entry : tie.Need-array-read-entry Inv-loop μ-loop
+array-read-entry c = search needs
 
-look-requires : tie.Need-look-requires Inv-loop μ-loop
-look-requires c κs = search needs
+entry-requires : tie.Need-entry-requires Inv-loop μ-loop
+entry-requires c κs = search needs
 
 array-write-t : tie.Need-array-write-t Inv-loop μ-loop
 array-write-t c = search needs
@@ -38,7 +38,7 @@ loop-less : tie.Need-loop-less Inv-loop μ-loop
 loop-less c = search needs
 
 loop-again : tie.Need-loop-again Inv-loop μ-loop
-loop-again c = one-filled (c .look .result) (c .before .before .loop .inv) (omega arith) (c .look .ensures)
+loop-again c = one-filled (c .entry .result) (c .before .before .loop .inv) (omega arith) (c .entry .ensures)
 
 returns : tie.Need-returns Inv-loop μ-loop
 unfolding at state
@@ -53,8 +53,8 @@ sub-bytes-spec =
     Inv-loop
     μ-loop
     loop-holds
-    array-read-look
-    look-requires
+    array-read-entry
+    entry-requires
     array-write-t
     add-i
     loop-less

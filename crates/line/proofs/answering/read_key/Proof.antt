@@ -7,7 +7,7 @@ use Prim.Native.Nat.{_*_, _≤_, _<_}
 use native.Mathlib.Omega.{arith}
 use lib.ListN.{length}
 use denote.Ref.{now}
-use Rattle.text.specs.Part.{before}
+use Rattle.text.specs.Inner.{before}
 use Rattle.text.proofs.Digits.{field-is}
 use Rattle.line.specs.Line.{replyTo}
 use Rattle.line.proofs.Requests.{field-refused, field-read}

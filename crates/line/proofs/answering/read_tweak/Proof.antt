@@ -8,7 +8,7 @@ use native.Mathlib.Omega.{arith}
 use lib.ListN.{length}
 use denote.Ref.{now}
 use Rattle.text.specs.Hex.{hex}
-use Rattle.text.specs.Part.{before}
+use Rattle.text.specs.Inner.{before}
 use Rattle.text.proofs.Digits.{field-is}
 use Rattle.line.specs.Line.{replyTo}
 use Rattle.line.proofs.Requests.{field-refused, field-read}
@@ -49,32 +49,32 @@ told-field c =
     let f = field-is 32 (now (args .fields)) _ (c .before .n .given .0 .0) (sym (decoded .decode-field .ensures .0) ∙ c .before .n .given .1) in
     (f .1, f .2, f .3)
 
-sub-read-data : tie.Need-sub-read-data
-sub-read-data c = search needs
+sub-read-message : tie.Need-sub-read-message
+sub-read-message c = search needs
 
-part-read-data-start : tie.Need-part-read-data-start
-part-read-data-start c = search needs
+part-read-message-start : tie.Need-part-read-message-start
+part-read-message-start c = search needs
 
-part-read-data-end : tie.Need-part-read-data-end
-part-read-data-end c = omega (arith, told-field (c .before))
+part-read-message-end : tie.Need-part-read-message-end
+part-read-message-end c = omega (arith, told-field (c .before))
 
-mul-read-data : tie.Need-mul-read-data
-mul-read-data c = omega (arith, told-field (c .before .before))
+mul-read-message : tie.Need-mul-read-message
+mul-read-message c = omega (arith, told-field (c .before .before))
 
-add-read-data : tie.Need-add-read-data
-add-read-data c = omega (arith, told-field (c .before .before))
+add-read-message : tie.Need-add-read-message
+add-read-message c = omega (arith, told-field (c .before .before))
 
-sub-read-data-2 : tie.Need-sub-read-data-2
-sub-read-data-2 c = omega (arith, told-field (c .before .before))
+sub-read-message-2 : tie.Need-sub-read-message-2
+sub-read-message-2 c = omega (arith, told-field (c .before .before))
 
-part-read-data-start-2 : tie.Need-part-read-data-start-2
-part-read-data-start-2 c = omega (arith, told-field (c .before .before))
+part-read-message-start-2 : tie.Need-part-read-message-start-2
+part-read-message-start-2 c = omega (arith, told-field (c .before .before))
 
-part-read-data-end-2 : tie.Need-part-read-data-end-2
-part-read-data-end-2 c = search needs
+part-read-message-end-2 : tie.Need-part-read-message-end-2
+part-read-message-end-2 c = search needs
 
-read-data-requires : tie.Need-read-data-requires
-read-data-requires c κs = search needs
+read-message-requires : tie.Need-read-message-requires
+read-message-requires c κs = search needs
 
 returns-2 : tie.Need-returns-2
 returns-2 c =
@@ -82,7 +82,7 @@ returns-2 c =
     let decoded = told .before .before .before .before in
     let args = decoded .before .before .before .before .args in
     rw (field-read (now (args .fields)) _ _ (decoded .decode-field .result) (told .before .n .given .0 .0) (decoded .decode-field .ensures .0) (told .before .n .given .1) (decoded .decode-field .ensures .1))
-    (c .read-data .ensures)
+    (c .read-message .ensures)
 
 pub read-tweak-spec : {M : Type 1} → statement M
 read-tweak-spec =
@@ -94,13 +94,13 @@ read-tweak-spec =
     enum-told
     refuse-requires
     returns
-    sub-read-data
-    part-read-data-start
-    part-read-data-end
-    mul-read-data
-    add-read-data
-    sub-read-data-2
-    part-read-data-start-2
-    part-read-data-end-2
-    read-data-requires
+    sub-read-message
+    part-read-message-start
+    part-read-message-end
+    mul-read-message
+    add-read-message
+    sub-read-message-2
+    part-read-message-start-2
+    part-read-message-end-2
+    read-message-requires
     returns-2)

@@ -20,8 +20,8 @@ reply-requires c κs =
     let numbered = c .before .before in
     let called = numbered .before .before .before in
     let args = called .before .before .before .before .before .before .args in
-    call-fits (now (args .key)) (now (args .tweak)) (now (args .«data»)) (called .encipher .last .1 .1 .0) (called .encipher .result) (numbered .number .result) (called .encipher .ensures .0)
-    (numbered .number .ensures) (numbered .before .before .«data» .given)
+    call-fits (now (args .key)) (now (args .tweak)) (now (args .message)) (called .encipher .last .1 .1 .0) (called .encipher .result) (numbered .number .result) (called .encipher .ensures .0)
+    (numbered .number .ensures) (numbered .before .before .message .given)
 
 same-length : tie.Need-same-length
 same-length c = search needs
@@ -34,7 +34,7 @@ returns c =
     let chosen = called .before .before in
     let args = chosen .before .before .before .before .args in
     rw (eq-eqb (args .command) 69 (chosen .if1 .taken))
-    (written-as (reply-called (called .encipher .result) _ (numbered .number .result) _ (enciphered (now (args .key)) (now (args .tweak)) (now (args .«data»))) (now (args .«data»)) (called .encipher .ensures .0) (numbered .number .ensures) (called .encipher .ensures .1))
+    (written-as (reply-called (called .encipher .result) _ (numbered .number .result) _ (enciphered (now (args .key)) (now (args .tweak)) (now (args .message))) (now (args .message)) (called .encipher .ensures .0) (numbered .number .ensures) (called .encipher .ensures .1))
     (c .reply .ensures))
 
 decipher-requires : tie.Need-decipher-requires
@@ -48,8 +48,8 @@ reply-requires-2 c κs =
     let numbered = c .before .before in
     let called = numbered .before .before .before in
     let args = called .before .before .before .before .before .before .before .args in
-    call-fits (now (args .key)) (now (args .tweak)) (now (args .«data»)) (called .decipher .last .1 .1 .0) (called .decipher .result) (numbered .number2 .result) (called .decipher .ensures .0)
-    (numbered .number2 .ensures) (numbered .before .before .data2 .given)
+    call-fits (now (args .key)) (now (args .tweak)) (now (args .message)) (called .decipher .last .1 .1 .0) (called .decipher .result) (numbered .number2 .result) (called .decipher .ensures .0)
+    (numbered .number2 .ensures) (numbered .before .before .message2 .given)
 
 same-length-2 : tie.Need-same-length-2
 same-length-2 c = search needs
@@ -62,7 +62,7 @@ returns-2 c =
     let chosen = called .before .before in
     let args = chosen .before .before .before .before .before .args in
     rw (ne-eqb (args .command) 69 (chosen .before .if1 .left), eq-eqb (args .command) 68 (chosen .if2 .taken))
-    (written-as (reply-called (called .decipher .result) _ (numbered .number2 .result) _ (deciphered (now (args .key)) (now (args .tweak)) (now (args .«data»))) (now (args .«data»)) (called .decipher .ensures .0) (numbered .number2 .ensures) (called .decipher .ensures .1 .0))
+    (written-as (reply-called (called .decipher .result) _ (numbered .number2 .result) _ (deciphered (now (args .key)) (now (args .tweak)) (now (args .message))) (now (args .message)) (called .decipher .ensures .0) (numbered .number2 .ensures) (called .decipher .ensures .1 .0))
     (c .reply2 .ensures))
 
 refuse-requires : tie.Need-refuse-requires

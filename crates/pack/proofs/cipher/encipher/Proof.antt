@@ -1,26 +1,10 @@
 -- The lengths are those that HCH admits, so it does its work.
 -- Assumes nothing.
-use native.Mathlib.Omega.{arith}
 use borrow.Author.Needs.{needs}
 use denote.Ref.{now}
-use Rattle.hch.specs.Hch.{enciphered}
-use Rattle.hch.proofs.Call.{work-done}
-use Rattle.layout.specs.Layout.{tweak as tweakOf}
-use Rattle.layout.proofs.Check.{tweak-of-length}
+use Rattle.pack.proofs.Theorems.{hch-done}
 use Rattle.pack.proofs.cipher.encipher.Statement.{statement}
 use Rattle.pack.proofs.cipher.encipher.Tie as tie
-
-tweak-requires : tie.Need-tweak-requires
-tweak-requires c κs = search needs
-
-slice-aggregate-encipher : tie.Need-slice-aggregate-encipher
-slice-aggregate-encipher c = search needs
-
-encipher-requires : tie.Need-encipher-requires
-encipher-requires c κs = search needs
-
-same-length : tie.Need-same-length
-same-length c = search needs
 
 returns : tie.Need-returns
 returns c =
@@ -28,14 +12,8 @@ returns c =
     let t = work .before .before .before in
     let start = t .before .before .before in
     let a = start .args in
-    let key = now (a .key) in
-    let T = tweakOf (a .pack) (a .place) in
-    let s = now (a .block) in
-    let size = start .pre .1 in
-    work-done key T s (enciphered key T s) _ (work .encipher .result) (rw (t .tweak .ensures) at (work .encipher .ensures .0)) (rw (t .tweak .ensures) at (work .encipher .ensures .1))
-    (start .pre .0) (tweak-of-length (a .pack) (a .place) .0) (omega (arith, size)) (omega (arith, size))
+    hch-done (now (a .key)) (a .pack) (a .place) (now (a .block)) _ _ (start .pre .0) (start .pre .1)
+    (rw (t .tweak .ensures) at (work .encipher .ensures .0)) (rw (t .tweak .ensures) at (work .encipher .ensures .1))
 
 pub encipher-spec : {M : Type 1} → statement M
-encipher-spec =
-    tie.close
-    (tie.spec tweak-requires slice-aggregate-encipher encipher-requires same-length returns)
+encipher-spec = tie.close (tie.spec (λ c κs. search needs) (λ c. search needs) (λ c κs. search needs) (λ c. search needs) returns)

@@ -1,115 +1,67 @@
--- Each refusal is that of its test, and the check decides the rest; what fails it is enciphered again.
+-- A refusal before the block is deciphered is that of the first tests; else the check decides.
 -- Assumes nothing.
-use mathlib.Core.Path.{_≡_, refl, sym}
-use mathlib.Core.Bool.{true, false}
+use mathlib.Core.Path.{sym, _∙_}
 use borrow.Author.Needs.{needs}
-use borrow.Author.Tests.{lt-ltb, eq-eqb, ne-eqb}
 use denote.Ref.{now}
-use Rattle.strings.specs.Bytes.{Bytes}
-use Rattle.hch.specs.Hch.{enciphered, deciphered}
-use Rattle.layout.proofs.Check.{read-passed, read-failed}
-use Rattle.pack.specs.Opening.{decipheredBlock, answerOf}
-use Rattle.pack.specs.declared.opening.Opened.the-variants.{Done, KeyLength, BlockLength, PlaceTooHigh, CheckFailed}
-use Rattle.pack.proofs.OneBlock.{by-check, given-back}
-use Rattle.pack.proofs.Theorems.{hch-tweakable, hch-meaning}
+use Rattle.strings.proofs.Refusals.{refusal-leaves}
+use Rattle.hch.specs.Hch.{hch}
+use Rattle.pack.specs.Opening.{decipheredBlock}
+use Rattle.pack.specs.declared.opening.Opened.the-variants.{Refused}
+use Rattle.pack.proofs.OneBlock.{openable, refused-first}
+use Rattle.pack.proofs.Theorems.{hch-meaning}
 use Rattle.pack.proofs.opening.open.Statement.{statement}
 use Rattle.pack.proofs.opening.open.Tie as tie
 
-returns : tie.Need-returns
-unfolding answerOf
-returns c =
-    let a = c .before .before .before .args in
-    let C = now (a .block) in
-    let answered : KeyLength ≡ answerOf deciphered (now (a .key)) (a .pack) (a .place) C =
-    rw (ne-eqb _ 16 (c .if1 .taken)) in
-    (answered, (refl, hch-meaning (now (a .key)) (a .pack) (a .place) C C KeyLength (λ i. c .before .slice-known .given i .fits) answered refl))
+judge-requires : tie.Need-judge-requires
+judge-requires c κs = search needs
 
-returns-2 : tie.Need-returns-2
-unfolding answerOf
-returns-2 c =
-    let a = c .before .before .before .before .args in
-    let C = now (a .block) in
-    let answered : BlockLength ≡ answerOf deciphered (now (a .key)) (a .pack) (a .place) C =
-    rw (eq-eqb _ 16 (c .before .if1 .left), ne-eqb _ 512 (c .if2 .taken)) in
-    (answered, (refl, hch-meaning (now (a .key)) (a .pack) (a .place) C C BlockLength (λ i. c .before .before .slice-known .given i .fits) answered refl))
-
-returns-3 : tie.Need-returns-3
-unfolding answerOf
-returns-3 c =
-    let a = c .before .before .before .before .before .args in
-    let C = now (a .block) in
-    let answered : PlaceTooHigh ≡ answerOf deciphered (now (a .key)) (a .pack) (a .place) C =
-    rw (eq-eqb _ 16 (c .before .before .if1 .left), eq-eqb _ 512 (c .before .if2 .left), lt-ltb 65535 _ (c .if3 .taken)) in
-    (answered, (refl, hch-meaning (now (a .key)) (a .pack) (a .place) C C PlaceTooHigh (λ i. c .before .before .before .slice-known .given i .fits) answered refl))
-
-decipher-requires : tie.Need-decipher-requires
-decipher-requires c κs = search needs
-
-read-requires : tie.Need-read-requires
-read-requires c κs = search needs
+enum-known-answer : tie.Need-enum-known-answer
+enum-known-answer c = search needs
 
 same-length : tie.Need-same-length
 same-length c = search needs
 
-returns-4 : tie.Need-returns-4
-unfolding decipheredBlock
-returns-4 c =
-    let p = c .before in
-    let d = p .before .before .before .before in
-    let d3 = d .before .before in
-    let d2 = d3 .before in
-    let d1 = d2 .before in
-    let known = d1 .before in
+returns : tie.Need-returns
+returns c =
+    let refused = c .before .answer .given in
+    let judged = c .before .before .before in
+    let known = judged .before .before in
     let a = known .before .before .args in
     let key = now (a .key) in
     let C = now (a .block) in
-    let B = decipheredBlock deciphered key (a .pack) (a .place) C in
-    let plain : d .decipher .last .1 .1 .1 .0 ≡ B = d .decipher .ensures in
-    let told = read-passed (a .pack) (a .place) B (p .read .result) (rw plain at (p .read .ensures)) (c .if4 .taken) in
-    let answered : Done (p .read .result) ≡ answerOf deciphered key (a .pack) (a .place) C =
-    rw (told .1) (sym (by-check deciphered key (a .pack) (a .place) C (d1 .if1 .left) (d2 .if2 .left) (d3 .if3 .left) true (told .0))) in
-    (answered, (plain, hch-meaning key (a .pack) (a .place) C _ (Done (p .read .result)) (λ i. known .slice-known .given i .fits) answered plain))
+    let answered = refused-first hch key (a .pack) (a .place) C (sym (judged .judge .ensures (a .pack)) ∙ refused .1) in
+    let left = refusal-leaves (refused .0 .0) (decipheredBlock hch key (a .pack) (a .place) C) C in
+    (answered, (left, hch-meaning key (a .pack) (a .place) C C (Refused _) (λ i. known .slice-known .given i .fits) answered left))
 
-encipher-requires : tie.Need-encipher-requires
-encipher-requires c κs = search needs
+enum-told : tie.Need-enum-told
+enum-told c = search needs
+
+open-block-requires : tie.Need-open-block-requires
+open-block-requires c κs =
+    let tested = c .before .before .before in
+    let lent = tested .before .before .before .before .args in
+    openable hch (now (lent .key)) (lent .pack) (lent .place) (now (lent .block)) (sym (tested .judge .ensures (lent .pack)) ∙ c .before .enum-told .given .1)
 
 same-length-2 : tie.Need-same-length-2
 same-length-2 c = search needs
 
-returns-5 : tie.Need-returns-5
-unfolding decipheredBlock
-returns-5 c =
-    let again = c .before .before in
-    let p = again .before .before .before in
-    let d = p .before .before .before .before in
-    let d3 = d .before .before in
-    let d2 = d3 .before in
-    let d1 = d2 .before in
-    let known = d1 .before in
+returns-2 : tie.Need-returns-2
+returns-2 c =
+    let opened = c .before .before in
+    let known = opened .before .before .before .before .before .before in
     let a = known .before .before .args in
-    let key = now (a .key) in
-    let C = now (a .block) in
-    let B = decipheredBlock deciphered key (a .pack) (a .place) C in
-    let plain : d .decipher .last .1 .1 .1 .0 ≡ B = d .decipher .ensures in
-    let failed = read-failed (a .pack) (a .place) B (p .read .result) (rw plain at (p .read .ensures)) (again .before .before .if4 .left) in
-    let answered : CheckFailed ≡ answerOf deciphered key (a .pack) (a .place) C =
-    sym (by-check deciphered key (a .pack) (a .place) C (d1 .if1 .left) (d2 .if2 .left) (d3 .if3 .left) false failed) in
-    let bytes : Bytes C = λ i. known .slice-known .given i .fits in
-    let left : again .encipher .last .1 .1 .1 .0 ≡ C =
-    rw (again .encipher .ensures, plain) (given-back enciphered deciphered key (hch-tweakable key) (a .pack) (a .place) C (d2 .if2 .left, bytes)) in
-    (answered, (left, hch-meaning key (a .pack) (a .place) C _ CheckFailed bytes answered left))
+    let e = opened .open-block .ensures in
+    (e .0, (e .1, hch-meaning (now (a .key)) (a .pack) (a .place) (now (a .block)) _ _ (λ i. known .slice-known .given i .fits) (e .0) (e .1)))
 
 pub open-spec : {M : Type 1} → statement M
 open-spec =
     tie.close
     (tie.spec
-    returns
-    returns-2
-    returns-3
-    decipher-requires
-    read-requires
+    judge-requires
+    enum-known-answer
     same-length
-    returns-4
-    encipher-requires
+    returns
+    enum-told
+    open-block-requires
     same-length-2
-    returns-5)
+    returns-2)

@@ -9,7 +9,8 @@ use lib.ListN.{length, take, drop, length-set}
 use lib.Seq.{take-all}
 use denote.Ref.{now}
 use borrow.Author.Tests.{le-leb, lt-leb, not-true, not-false}
-use Rattle.text.specs.Hex.{isHex, unhex, decodedOf, leftBy}
+use Rattle.text.specs.Hex.{isHex, unhex}
+use Rattle.text.specs.Inner.{decodedOf, decodedIn}
 use Rattle.text.proofs.Digits.{digit-at, even-digits, unhex-store}
 use Rattle.text.proofs.hex.decode.Statement.{statement}
 use Rattle.text.proofs.hex.decode.Tie as tie
@@ -21,14 +22,14 @@ abbrev μ-loop : tie.MeasureT-loop
 μ-loop text out₀ n i₀ out i = n - i
 
 returns : tie.Need-returns Inv-loop μ-loop
-unfolding decodedOf leftBy
+unfolding decodedOf decodedIn
 returns c = (simp (lt-leb _ _ (c .if1 .taken), and-false), refl)
 
 is-hex-requires : tie.Need-is-hex-requires Inv-loop μ-loop
 is-hex-requires c κs = tt
 
 returns-2 : tie.Need-returns-2 Inv-loop μ-loop
-unfolding decodedOf leftBy
+unfolding decodedOf decodedIn
 returns-2 c =
     let no : isHex (now (c .before .before .before .before .before .args .text)) ≡ false = sym (c .before .is-hex .ensures) ∙ not-true _ (c .if2 .taken) in
     (simp no, refl)
@@ -66,7 +67,7 @@ same-length : tie.Need-same-length Inv-loop μ-loop
 same-length c = c .before .loop .inv .3
 
 returns-3 : tie.Need-returns-3 Inv-loop μ-loop
-unfolding decodedOf leftBy
+unfolding decodedOf decodedIn
 returns-3 c =
     let a = c .before .before .before .before .before .before .before .args in
     let s = now (a .text) in

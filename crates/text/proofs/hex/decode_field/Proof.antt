@@ -1,24 +1,25 @@
 -- `text::hex::decode_field` meets its contract: what `decode` is lent is the part in front of the first `end`.
+use borrow.Author.Needs.{needs}
 use mathlib.Core.Path.{_≡_, refl}
 use Prim.Native.Nat.{_-_}
 use native.Mathlib.Omega.{arith}
 use lib.ListN.{length, take}
 use denote.Ref.{now}
 use borrow.Author.Tests.{lt-ltb, le-ltb}
-use Rattle.text.specs.Hex.{fieldOf, leftBy}
-use Rattle.text.specs.Part.{before}
-use Rattle.text.proofs.Parts.{before-take}
+use Rattle.text.specs.Inner.{before, fieldOf, decodedIn}
+use Rattle.text.proofs.Parts.{before-index, before-take}
 use Rattle.text.proofs.hex.decode_field.Statement.{statement}
 use Rattle.text.proofs.hex.decode_field.Tie as tie
 
 find-requires : tie.Need-find-requires
-find-requires c κs = tt
+find-requires c κs = search needs
 
 returns : tie.Need-returns
-unfolding fieldOf leftBy
+unfolding fieldOf decodedIn
 returns c =
     let a = c .before .before .before .before .args in
     let s = now (a .text) in
+    let place = before-index (a .end) s (c .before .find .ensures .0) in
     (simp (le-ltb (length (before (a .end) s)) (length s) (omega arith)), refl)
 
 sub-decode : tie.Need-sub-decode
@@ -42,6 +43,7 @@ returns-2 c =
     let at-find = c .before .before .before .before .before .before in
     let a = at-find .before .before .before .args in
     let s = now (a .text) in
+    let place = before-index (a .end) s (at-find .find .ensures .0) in
     let n : at-find .find .result - 0 ≡ length (before (a .end) s) = omega arith in
     let part : take (at-find .find .result - 0) s ≡ before (a .end) s = rw n (before-take (a .end) s) in
     let short = lt-ltb (length (before (a .end) s)) (length s) (omega arith) in

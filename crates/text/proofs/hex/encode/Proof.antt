@@ -7,7 +7,8 @@ use native.Mathlib.Numerals.{add-one-le}
 use native.Mathlib.Omega.{arith}
 use lib.ListN.{length, take, drop, getD, length-set}
 use denote.Ref.{now}
-use Rattle.text.specs.Hex.{digit, hex, fitting, encodedIn}
+use Rattle.text.specs.Hex.{digit, hex}
+use Rattle.text.specs.Inner.{fitting, encodedIn}
 use Rattle.text.proofs.Digits.{hex-store}
 use Rattle.text.proofs.hex.encode.Statement.{statement}
 use Rattle.text.proofs.hex.encode.Tie as tie

@@ -1,110 +1,91 @@
--- `text::part::append` meets its contract. The invariant: the line goes on with the first i bytes of `more`. The measure is what is left of the n
--- bytes that have room.
-use mathlib.Core.Path.{_≡_, refl, sym, _∙_}
-use Prim.Native.Nat.{ℕ, _+_, _-_, _≤_, _<_, min}
-use native.Mathlib.Numerals.{add-one, add-one-le}
+-- `text::part::append` meets its contract: the two tests are whether there is room for all of `more`.
+-- Assumes nothing.
+use borrow.Author.Needs.{needs}
+use borrow.Author.Tests.{le-leb, lt-leb}
+use mathlib.Core.Path.{_≡_, refl}
+use mathlib.Core.List.{List}
+use Prim.Native.Nat.{ℕ, _+_, _≤_, _<_}
 use native.Mathlib.Omega.{arith}
-use lib.ListN.{length, take, length-set}
+use lib.ListN.{length}
 use denote.Ref.{now}
-use Rattle.text.specs.Part.{appended}
-use Rattle.text.proofs.Parts.{appended-none, appended-past, appended-room, appended-store}
+use Rattle.strings.specs.Inner.{overwrite}
+use Rattle.text.specs.Inner.{lineWith, keptWith}
+use Rattle.text.specs.declared.part.Kept.{Kept}
+use Rattle.text.specs.declared.part.Kept.the-variants.{Characters, TooLong}
 use Rattle.text.proofs.part.append.Statement.{statement}
 use Rattle.text.proofs.part.append.Tie as tie
 
-abbrev Inv-loop : tie.InvT-loop
-Inv-loop line₀ count more n i₀ line i = (i ≤ n) × (line ≡ appended line₀ count (take i more)) × (length line ≡ length line₀)
+module _ (line more : List ℕ) {left : List ℕ} {kept : Kept} {n : ℕ} (told : kept ≡ Characters n) (written : left ≡ overwrite n more line) where
+  room : n + length more ≤ length line → (Characters (n + length more) ≡ keptWith line kept more) × (left ≡ lineWith line kept more)
+  unfolding lineWith keptWith
+  room h = rw (told, le-leb (n + length more) (length line) h) (refl, written)
 
-abbrev μ-loop : tie.MeasureT-loop
-μ-loop line₀ count more n i₀ line i = n - i
+  no-room : length line < n + length more → (TooLong ≡ keptWith line kept more) × (left ≡ lineWith line kept more)
+  unfolding lineWith keptWith
+  no-room h = rw (told, lt-leb (n + length more) (length line) h) (refl, written)
 
--- n is as many of m bytes as have room from place k on in a line of length l: each of them is there, and has room
-inside : (i n m l k : ℕ) → n ≡ min m (l - k) → k ≤ l → i < n → (i < m) × (k + i < l)
-inside i n m l k e h t = omega arith
+enum-known-kept : tie.Need-enum-known-kept
+enum-known-kept c = search needs
 
--- and no other has room
-enough : (i n m l k : ℕ) → n ≡ min m (l - k) → k ≤ l → n ≤ i → min l (k + m) ≤ k + i
-enough i n m l k e h t = omega arith
+enum-told : tie.Need-enum-told
+enum-told c = search needs
 
-add-result : tie.Need-add-result Inv-loop μ-loop
-add-result c = omega arith
+returns : tie.Need-returns
+unfolding lineWith keptWith
+returns c = rw (c .enum-told .given .1) (refl, refl)
 
-returns : tie.Need-returns Inv-loop μ-loop
-returns c = (omega arith, sym (appended-past _ _ _ (omega arith)))
+write-requires : tie.Need-write-requires
+write-requires c κs = search needs
 
-sub-least : tie.Need-sub-least Inv-loop μ-loop
-sub-least c = omega arith
+same-length : tie.Need-same-length
+same-length c = search needs
 
-least-requires : tie.Need-least-requires Inv-loop μ-loop
-least-requires c κs = tt
-
-loop-holds : tie.Need-loop-holds Inv-loop μ-loop
-loop-holds c = (omega arith, sym (appended-none _ _), refl)
-
-shared-slice-read-line : tie.Need-shared-slice-read-line Inv-loop μ-loop
-shared-slice-read-line c = omega arith
-
-add-line : tie.Need-add-line Inv-loop μ-loop
-add-line c = omega arith
-
-slice-write-line : tie.Need-slice-write-line Inv-loop μ-loop
-slice-write-line c = omega arith
-
-add-i : tie.Need-add-i Inv-loop μ-loop
-add-i c = omega arith
-
-loop-less : tie.Need-loop-less Inv-loop μ-loop
-loop-less c = omega arith
-
-loop-again : tie.Need-loop-again Inv-loop μ-loop
-loop-again c =
-    let at-loop = c .before .before in
-    let a = at-loop .before .before .before .before .before .args in
-    let i = at-loop .loop .i in
-    let h = inside i _ _ _ (a .count) (at-loop .before .least .ensures) (at-loop .before .before .if1 .left) (c .before .loop-test .taken) in (
-      add-one-le (c .before .loop-test .taken),
-      rw (at-loop .loop .inv .1, add-one i) (appended-store (now (a .line)) (a .count) (now (a .more)) i (h .0) (h .1)),
-      simp length-set (at-loop .loop .inv .2),
-    )
-
-add-least : tie.Need-add-least Inv-loop μ-loop
-add-least c = omega arith
-
-add-least-2 : tie.Need-add-least-2 Inv-loop μ-loop
-add-least-2 c = omega arith
-
-least-requires-2 : tie.Need-least-requires-2 Inv-loop μ-loop
-least-requires-2 c κs = tt
-
-same-length : tie.Need-same-length Inv-loop μ-loop
-same-length c = omega arith
-
-returns-2 : tie.Need-returns-2 Inv-loop μ-loop
+returns-2 : tie.Need-returns-2
 returns-2 c =
-    let at-loop = c .before .before in
-    let a = at-loop .before .before .before .before .before .args in
-    let i = at-loop .loop .i in
-    let h = enough i _ _ _ (a .count) (at-loop .before .least .ensures) (at-loop .before .before .if1 .left) (c .before .loop-test .left) in
-    (simp (c .least2 .ensures, at-loop .loop .inv .2), at-loop .loop .inv .1 ∙ appended-room (now (a .line)) (a .count) (now (a .more)) i h)
+    let wrote = c .before .before .before in
+    let known = wrote .before .before .before in
+    let args = known .before .before .before .before .args in
+    no-room (now (args .line)) (now (args .more)) (known .kept .given .1) (wrote .write .ensures) (omega arith)
+
+sub-if2 : tie.Need-sub-if2
+sub-if2 c = search needs
+
+add-t13 : tie.Need-add-t13
+add-t13 c = search needs
+
+same-length-2 : tie.Need-same-length-2
+same-length-2 c = search needs
+
+returns-3 : tie.Need-returns-3
+returns-3 c =
+    let wrote = c .before .before .before .before in
+    let known = wrote .before .before .before in
+    let args = known .before .before .before .before .args in
+    room (now (args .line)) (now (args .more)) (known .kept .given .1) (wrote .write .ensures) (omega arith)
+
+same-length-3 : tie.Need-same-length-3
+same-length-3 c = search needs
+
+returns-4 : tie.Need-returns-4
+returns-4 c =
+    let wrote = c .before .before .before .before in
+    let known = wrote .before .before .before in
+    let args = known .before .before .before .before .args in
+    no-room (now (args .line)) (now (args .more)) (known .kept .given .1) (wrote .write .ensures) (omega arith)
 
 pub append-spec : {M : Type 1} → statement M
 append-spec =
     tie.close
     (tie.spec
-    Inv-loop
-    μ-loop
-    add-result
+    enum-known-kept
+    enum-told
     returns
-    sub-least
-    least-requires
-    loop-holds
-    shared-slice-read-line
-    add-line
-    slice-write-line
-    add-i
-    loop-less
-    loop-again
-    add-least
-    add-least-2
-    least-requires-2
+    write-requires
     same-length
-    returns-2)
+    returns-2
+    sub-if2
+    add-t13
+    same-length-2
+    returns-3
+    same-length-3
+    returns-4)

@@ -1,4 +1,5 @@
--- Each turn fills 16 bytes more: the measure is what is left of the buffer. What `find` answers is within the line (`before-within`).
+-- Each turn fills 16 bytes more: the measure is what is left of the buffer.
+-- Assumes nothing.
 use borrow.Author.Needs.{needs}
 use native.Mathlib.Omega.{arith}
 use Prim.Native.Nat.{ℕ, _+_, _-_, _^_, _≤_, _<_, zero-le}
@@ -6,7 +7,7 @@ use native.Mathlib.Nat.{le-add-right}
 use mathlib.Core.Path.{_≡_, refl, _∙_}
 use denote.Ref.{now}
 use lib.ListN.{length}
-use Rattle.text.proofs.Parts.{before-within}
+use Rattle.text.specs.declared.hex.Decoded.the-variants.{Bytes, Refused}
 use Rattle.vectors.proofs.fields.blocks_from.Statement.{statement}
 use Rattle.vectors.proofs.fields.blocks_from.Tie as tie
 
@@ -16,19 +17,20 @@ Inv-loop line data₀ n₀ next₀ «data» n next = (n ≤ length «data») × 
 abbrev μ-loop : tie.MeasureT-loop
 μ-loop line data₀ n₀ next₀ «data» n next = length «data» - n
 
+-- nothing is said of the bytes of what was refused
+refused : {n : ℕ} → Refused ≡ Bytes n → ⊥
+refused e = let z : _≡_ {A = ℕ} 0 1 = cc in omega arith
+
 loop-holds : tie.Need-loop-holds Inv-loop μ-loop
 loop-holds c = (zero-le, refl)
 
 find-requires : tie.Need-find-requires Inv-loop μ-loop
-find-requires c κs = tt
+find-requires c κs = search needs
 
 -- the field ends within the line
 within : (c : tie.After-find Inv-loop μ-loop)
     → (c .before .before .loop .next ≤ c .find .result) × (c .find .result ≤ length (now (c .before .before .before .before .before .args .line)))
-within c =
-    let line = now (c .before .before .before .before .before .args .line) in
-    let next = c .before .before .loop .next in
-    (rw (c .find .ensures) (le-add-right next _), rw (c .find .ensures) (before-within 32 line next (c .before .loop-test .taken)))
+within c = (rw (c .find .ensures .0) (le-add-right _ _), c .find .ensures .1)
 
 one-more : (c : tie.After-find Inv-loop μ-loop) → c .find .result + 1 < 2 ^ 64
 one-more c = omega (arith, within c .1)
@@ -40,7 +42,7 @@ same-length : tie.Need-same-length Inv-loop μ-loop
 same-length c = c .before .before .before .loop .inv .1
 
 returns : tie.Need-returns Inv-loop μ-loop
-returns c = zero-le
+returns c n e = absurd (refused e)
 
 sub-decode : tie.Need-sub-decode Inv-loop μ-loop
 sub-decode c = within (c .before) .0
@@ -86,13 +88,13 @@ same-length-2 : tie.Need-same-length-2 Inv-loop μ-loop
 same-length-2 c = c .before .before .before .«data» .given .1 ∙ c .before .before .before .before .before .before .before .before .before .before .loop .inv .1
 
 returns-2 : tie.Need-returns-2 Inv-loop μ-loop
-returns-2 c = zero-le
+returns-2 c n e = absurd (refused e)
 
 same-length-3 : tie.Need-same-length-3 Inv-loop μ-loop
 same-length-3 c = c .before .before .before .before .before .«data» .given .1 ∙ c .before .before .before .before .before .before .before .before .before .before .before .before .loop .inv .1
 
 returns-3 : tie.Need-returns-3 Inv-loop μ-loop
-returns-3 c = zero-le
+returns-3 c n e = absurd (refused e)
 
 add-n : tie.Need-add-n Inv-loop μ-loop
 add-n c = record { fits = fits (c .before .before .before .before .before .before .before .before .before) }
@@ -117,7 +119,9 @@ same-length-4 : tie.Need-same-length-4 Inv-loop μ-loop
 same-length-4 c = c .before .loop .inv .1
 
 returns-4 : tie.Need-returns-4 Inv-loop μ-loop
-returns-4 c = rw (c .before .loop .inv .1) at (c .before .loop .inv .0)
+returns-4 c n e =
+    let same : c .before .loop .n ≡ n = cc in
+    rw (← same) (rw (c .before .loop .inv .1) at (c .before .loop .inv .0))
 
 pub blocks-from-spec : {M : Type 1} → statement M
 blocks-from-spec =

@@ -1,43 +1,40 @@
--- `Block::write` meets its contract: past the end nothing is written, and else the bytes of the two halves, one after the other.
+-- The low half in 16 bytes, and the high half over their zeros.
 -- Assumes nothing.
 use borrow.Author.Needs.{needs}
-use Prim.Native.Nat.{_^_, _<_}
+use Prim.Native.Nat.{ℕ, _/_, _^_, _<_}
 use native.Mathlib.Omega.{arith}
-use mathlib.Core.Path.{sym}
+use mathlib.Core.Path.{_≡_, sym, _∙_}
+use mathlib.Core.List.{List}
 use denote.Ref.{now}
+use lib.ListN.{length}
 use Rattle.strings.specs.Bytes.{bytes}
+use Rattle.strings.specs.Inner.{overwrite}
 use Rattle.blocks.specs.Inner.{value}
-use Rattle.strings.proofs.Bytes.{length-bytes}
-use Rattle.strings.proofs.Place.{overwrite-past, overwrite-append, bytes-join}
+use Rattle.strings.proofs.Place.{bytes-join, overwrite-again}
+use Rattle.strings.proofs.Bytes.{length-bytes, bytes-append}
 use Rattle.blocks.proofs.block.Block.write.Statement.{statement}
 use Rattle.blocks.proofs.block.Block.write.Tie as tie
 
-returns : tie.Need-returns
-returns c =
-    let a = c .before .before .args in
-    sym (overwrite-past (a .at) (bytes 16 (value (a .self))) (now (a .out)) (c .if1 .taken))
+put-requires : tie.Need-put-requires
+put-requires c κs = search needs
 
-put-word-requires : tie.Need-put-word-requires
-put-word-requires c κs = search needs
-
-add-put-word : tie.Need-add-put-word
-add-put-word c = search needs
-
-put-word-requires-2 : tie.Need-put-word-requires-2
-put-word-requires-2 c κs = search needs
+put-requires-2 : tie.Need-put-requires-2
+put-requires-2 c κs = search needs
 
 same-length : tie.Need-same-length
 same-length c = search needs
 
-returns-2 : tie.Need-returns-2
+returns : tie.Need-returns
 unfolding value
-returns-2 c =
+returns c =
     let p = c .before .before .before .before .before .before in
-    let a = p .before .before .before .before .args in
+    let a = p .before .before .before .args in
     let low : a .self .lo < 2 ^ 64 = omega arith in
-    rw (c .before .before .put-word2 .ensures, p .put-word .ensures, bytes-join 8 8 (a .self .hi) low, overwrite-append, length-bytes)
+    let front : List ℕ = bytes 8 (a .self .lo / 2 ^ 64) in
+    let same : length front ≡ length (bytes 8 (a .self .hi)) = length-bytes 8 (a .self .lo / 2 ^ 64) ∙ sym (length-bytes 8 (a .self .hi)) in
+    let first : p .put .last .0 ≡ overwrite (a .at) (bytes 16 (a .self .lo)) (now (a .out)) = p .put .ensures in
+    rw (c .before .before .put2 .ensures, first, bytes-join 8 8 (a .self .hi) low, bytes-append 8 8 (a .self .lo))
+    (overwrite-again (a .at) front (bytes 8 (a .self .hi)) (bytes 8 (a .self .lo)) (now (a .out)) same)
 
 pub write-spec : {M : Type 1} → statement M
-write-spec =
-    tie.close
-    (tie.spec returns put-word-requires add-put-word put-word-requires-2 same-length returns-2)
+write-spec = tie.close (tie.spec put-requires put-requires-2 same-length returns)
