@@ -184,39 +184,62 @@ def from_hex(*fields):
     return [bytes.fromhex(field.decode("ascii")) for field in fields]
 
 
-def outcome(answer, result):
-    """The number and the bytes of a stored answer."""
+def outcome(answer):
+    """The number of a stored answer, the bytes, or None for those that were
+    lent, and u, which is 0 but for a block that was opened."""
     name, _, number = answer.partition(b" ")
-    return (int(number), None) if name == b"no" else (0, *from_hex(result))
+    return (int(number), None, 0) if name == b"no" else (
+        0, *from_hex(answer), 0)
 
 
-def stored_hch(name):
-    def read(_, fields, answer):
-        key, tweak, data = from_hex(*fields)
-        number, after = outcome(answer, answer)
-        return case(name, key, tweak, data=data, number=number, after=after)
-    return read
-
-
-def stored_seal(rng, fields, answer):
-    key, pack, place, payload = from_hex(*fields)
-    number, after = outcome(answer, answer)
-    return case("seal", key, payload=payload, data=rng.randbytes(SIZE),
-                pack=int.from_bytes(pack, "big"),
-                place=int.from_bytes(place, "big"), number=number, after=after)
-
-
-def stored_open(_, fields, answer):
-    key, pack, place, block = from_hex(*fields)
+def opened(answer):
+    """The same of a line that opens a block."""
     used, _, plain = answer.partition(b" ")
-    number, after = outcome(answer, plain)
-    return case("open", key, data=block, pack=int.from_bytes(pack, "big"),
-                place=int.from_bytes(place, "big"), number=number,
-                after=after, used=0 if number else int(used))
+    return outcome(answer) if used == b"no" else (
+        0, *from_hex(plain), int(used))
 
 
-STORED = {b"he": stored_hch("encipher"), b"hd": stored_hch("decipher"),
-          b"ps": stored_seal, b"po": stored_open}
+def left(answer):
+    """The same of a line that shows what is left."""
+    number, _, after = answer.partition(b" ")
+    return int(number), *from_hex(after), 0
+
+
+def left_open(answer):
+    number, after, _ = left(answer)
+    return number, after, 0 if number else packs.u_of(after)
+
+
+def stored_hch(name, read):
+    def stored(_, fields, answer):
+        key, tweak, data = from_hex(*fields)
+        number, after, _ = read(answer)
+        return case(name, key, tweak, data=data, number=number, after=after)
+    return stored
+
+
+def stored_pack(name, read):
+    """The last field is the block; `ps` lends none, and gets any bytes."""
+    def stored(rng, fields, answer):
+        key, pack, place, *rest = from_hex(*fields)
+        if name == "seal" and len(rest) == 1:
+            rest.append(rng.randbytes(SIZE))
+        *payload, block = rest
+        number, after, used = read(answer)
+        return case(name, key, payload=b"".join(payload), data=block,
+                    pack=int.from_bytes(pack, "big"),
+                    place=int.from_bytes(place, "big"), number=number,
+                    after=after, used=used)
+    return stored
+
+
+STORED = {
+    b"he": stored_hch("encipher", outcome),
+    b"hd": stored_hch("decipher", outcome),
+    b"ps": stored_pack("seal", outcome), b"po": stored_pack("open", opened),
+    b"le": stored_hch("encipher", left), b"ld": stored_hch("decipher", left),
+    b"ls": stored_pack("seal", left), b"lo": stored_pack("open", left_open),
+}
 
 GROUPS = [data_lengths, key_and_tweak_lengths, payloads, lent_blocks,
           places_and_packs, wrong_blocks, refusals, stored_lines]

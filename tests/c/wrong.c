@@ -61,7 +61,17 @@ static uint32_t write_past_block(OPEN_CALL) {
 
 static uint32_t tweak_before_key(HCH_CALL) { return t != 16 ? 2 : right.encipher(HCH); }
 
+static uint32_t block_before_key(SEAL_CALL) { return n != 512 ? 7 : right.seal(SEAL); }
+
 static uint32_t payload_before_block(SEAL_CALL) { return k == 16 && u > 496 ? 5 : right.seal(SEAL); }
+
+static uint32_t place_before_block(SEAL_CALL) { return k == 16 && place > 65535 ? 6 : right.seal(SEAL); }
+
+static uint32_t place_before_payload(SEAL_CALL) { return k == 16 && n == 512 && place > 65535 ? 6 : right.seal(SEAL); }
+
+static uint32_t open_seven_before_one(OPEN_CALL) { return n != 512 ? 7 : right.open(OPEN); }
+
+static uint32_t open_six_before_seven(OPEN_CALL) { return k == 16 && place > 65535 ? 6 : right.open(OPEN); }
 
 static uint32_t check_before_place(OPEN_CALL) {
     return place > 65535 ? right.open(key, k, pack, 0, block, n) : right.open(OPEN);
@@ -73,8 +83,18 @@ static uint32_t change_when_refused(HCH_CALL) {
     return number;
 }
 
+static uint32_t decipher_when_refused(HCH_CALL) {
+    uint32_t number = right.decipher(HCH);
+    return number + (number == 4 ? right.decipher(key, k, tweak, t, data, 4096) : 0);
+}
+
 static uint32_t write_when_refused(SEAL_CALL) {
     if (k == 16 && n == 512) block[511] = 0;
+    return right.seal(SEAL);
+}
+
+static uint32_t write_short_block(SEAL_CALL) {
+    if (k == 16 && n > 0 && n < 512) block[0] ^= 1;
     return right.seal(SEAL);
 }
 
@@ -86,12 +106,16 @@ static uint32_t pack_of_32_bits(SEAL_CALL) {
 
 static uint32_t length_of_32_bits(HCH_CALL) { return right.encipher(key, k, tweak, t, data, (uint32_t)n); }
 
-/* "Leaving deciphered bytes behind after number 8." */
-static uint32_t leave_deciphered(OPEN_CALL) {
+static uint32_t deciphered_after(uint32_t refusal, OPEN_CALL) {
     uint8_t tweak[16] = {0};
     uint32_t number = right.open(OPEN);
-    return number + (number == 8 ? right.decipher(key, k, tweak, 16, block, n) : 0);
+    return number + (number == refusal ? right.decipher(key, k, tweak, 16, block, n) : 0);
 }
+
+static uint32_t decipher_before_place(OPEN_CALL) { return deciphered_after(6, OPEN); }
+
+/* "Leaving deciphered bytes behind after number 8." */
+static uint32_t leave_deciphered(OPEN_CALL) { return deciphered_after(8, OPEN); }
 
 static uint32_t open_damaged(OPEN_CALL) {
     uint32_t number = right.open(OPEN);
@@ -140,10 +164,18 @@ static const struct {
     {"writes past the data", {.decipher = write_past_data}, slices, "byte 1000 of the data, which has 1000 bytes, is"},
     {"writes past the block", {.open = write_past_block}, slices, "at byte 512 of the data"},
     {"looks at the tweak before the key", {.encipher = tweak_before_key}, order, "answers 2 in the place of 1"},
+    {"looks at the block before the key", {.seal = block_before_key}, order, "answers 7 in the place of 1"},
     {"looks at the payload before the block", {.seal = payload_before_block}, order, "answers 5 in the place of 7"},
+    {"looks at the place before the block", {.seal = place_before_block}, order, "answers 6 in the place of 7"},
+    {"looks at the place before the payload", {.seal = place_before_payload}, order, "answers 6 in the place of 5"},
+    {"opening, has 7 before 1", {.open = open_seven_before_one}, order, "answers 7 in the place of 1"},
+    {"opening, has 6 before 7", {.open = open_six_before_seven}, order, "answers 6 in the place of 7"},
     {"looks at the check before the place", {.open = check_before_place}, order, "answers 8 in the place of 6"},
     {"changes data that it refuses", {.encipher = change_when_refused}, order, "byte 0 of the data"},
+    {"deciphers data that it refuses", {.decipher = decipher_when_refused}, order, "byte 0 of the data"},
     {"changes a block that it refuses", {.seal = write_when_refused}, order, "byte 511 of the data"},
+    {"changes a short block that it refuses", {.seal = write_short_block}, order, "byte 0 of the data"},
+    {"deciphers a block before its place", {.open = decipher_before_place}, order, "byte 0 of the data"},
     {"takes a place by its last 16 bits", {.open = place_of_16_bits}, opening, "in the place of 6"},
     {"takes a pack by its last 32 bits", {.seal = pack_of_32_bits}, opening, "a payload of 100 bytes"},
     {"takes a length by its last 32 bits", {.encipher = length_of_32_bits}, slices, "answers 0 in the place of 4"},

@@ -17,7 +17,7 @@ import boardline
 from boardline import LONGEST
 from cases_hch import byte_drawer
 from hch import LEAST, MOST
-from lines import line
+from lines import digits, line
 
 UNDERSTOOD = re.compile(rb"[ED]( ([0-9a-f]{2})*){3}")
 NAMES = ("E", "D")
@@ -28,10 +28,6 @@ MOST_BYTES = (LONGEST - 4) // 2
 
 # A read often takes so many bytes at most.
 BUFFER = 65536
-
-
-def digits(string):
-    return string.hex().encode("ascii")
 
 
 def text(name, key, tweak, data):

@@ -30,8 +30,9 @@ LAST_PACK = (1 << 64) - 1
 MOST_BYTES = (LONGEST - 30) // 2
 
 
-def fields(name, key, pack, place, last):
-    return line(name, key.hex(), f"{pack:016x}", f"{place:08x}", last.hex())
+def fields(name, key, pack, place, *rest):
+    return line(name, key.hex(), f"{pack:016x}", f"{place:08x}",
+                *(field.hex() for field in rest))
 
 
 def ps_case(key, pack, place, payload):

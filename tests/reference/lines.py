@@ -17,6 +17,11 @@ def line(*fields):
     return " ".join(fields).encode("ascii")
 
 
+def digits(string):
+    """The bytes in hexadecimal digits, two a byte."""
+    return string.hex().encode("ascii")
+
+
 def drawer(seed):
     """A function that draws the next random block, as an int."""
     rng = random.Random(seed)

@@ -23,11 +23,12 @@ import cases_aes  # noqa: E402
 import cases_boardline  # noqa: E402
 import cases_field  # noqa: E402
 import cases_hch  # noqa: E402
+import cases_lent  # noqa: E402
 import cases_pack  # noqa: E402
 from lines import NO  # noqa: E402
 
 PROGRAMS = {
-    "vectors": [cases_field, cases_aes, cases_hch, cases_pack],
+    "vectors": [cases_field, cases_aes, cases_hch, cases_pack, cases_lent],
     "boardline": [cases_boardline],
 }
 

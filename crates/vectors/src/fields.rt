@@ -4,6 +4,7 @@ ghost use mathlib.Core.Bool.{true};
 ghost use Prim.Native.Nat.{ℕ, _*_, _≤_, _<_};
 ghost use lib.ListN.{length};
 ghost use Rattle.text.specs.declared.hex.Decoded.the-variants.{Bytes};
+ghost use Rattle.vectors.specs.declared.fields.Two.the-variants.{Lengths};
 use crate::LIMIT;
 use blocks::block::Block;
 use libc::STDOUT_FILENO;
@@ -45,6 +46,25 @@ pub(crate) fn filled(line: &[u8], out: &mut [u8]) -> bool
     n == out.len()
 }
 
+// What `decode_two` answers: how many bytes each of the fields has, or that they are not understood.
+pub(crate) enum Two {
+    Lengths(usize, usize),
+    Refused,
+}
+
+// Decodes two fields with a space between them. The last ends with the line: a space is no digit, so a third is refused here.
+pub(crate) fn decode_two(line: &[u8], first: &mut [u8], last: &mut [u8]) -> Two
+    ensures { λ r. ⌜ ((m n : ℕ) → r ≡ Lengths m n → (m ≤ length (now (first .entry))) × (n ≤ length (now (last .entry)))) ⌝ }
+{
+    let Decoded::Bytes(m) = text::hex::decode_field(line, b' ', first) else {
+        return Two::Refused;
+    };
+    let Decoded::Bytes(n) = text::hex::decode(&line[2 * m + 1..], last) else {
+        return Two::Refused;
+    };
+    Two::Lengths(m, n)
+}
+
 // Writes a block as a line.
 pub(crate) fn put_block(b: Block) {
     let mut bytes = [0u8; 16];
@@ -63,9 +83,13 @@ pub(crate) fn put_bytes(bytes: &[u8], line: &mut [u8]) {
     }
 }
 
-// Writes `no` and the number of a refusal, or the bytes where it is 0.
-pub(crate) fn put_answer(number: u32, bytes: &[u8]) {
-    if number > 0 {
+// Writes the answer of a call: the bytes, or `no` and the number of the refusal. Where the line lent the bytes, it is the number and
+// the bytes as they are left, refused or not.
+pub(crate) fn put_answer(lent: bool, number: u32, bytes: &[u8]) {
+    if lent {
+        io::print_decimal(STDOUT_FILENO, number as u64);
+        io::write_all(STDOUT_FILENO, b" ");
+    } else if number > 0 {
         io::write_all(STDOUT_FILENO, b"no ");
         io::print_decimal(STDOUT_FILENO, number as u64);
         io::write_all(STDOUT_FILENO, b"\n");

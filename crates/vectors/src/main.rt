@@ -11,10 +11,15 @@
 //     hd k t d        d deciphered
 //     ps k p n d      d sealed under the key k as the payload of the block at the place n of the pack p
 //     po k p n b      the block b opened: the payload's length in decimal, a space, the plain block
+//     le k t d        as `he`, on the lent message d
+//     ld k t d        as `hd`
+//     ls k p n d b    as `ps`, into the lent block b
+//     lo k p n b      as `po`, on the lent block b
 //
-// p has 16 digits and n has 8. The fields k, t, d and b of the last four may have any length, and be
+// p has 16 digits and n has 8. The fields k, t, d and b of the last eight may have any length, and be
 // empty; those of the others are blocks. What HCH or the pack refuses is answered `no` and the number
-// of the reason.
+// of the reason. The last four answer the call's number, 0 where it was done, a space, and all the
+// lent bytes as the call leaves them.
 mod fields;
 mod message;
 mod sealing;
@@ -107,7 +112,7 @@ fn reply(line: &[u8]) -> bool {
 fn run(command: &[u8], rest: &[u8]) -> bool {
     if command.len() == 2 {
         let scheme = command[0];
-        if scheme == b'h' || scheme == b'p' {
+        if scheme == b'h' || scheme == b'p' || scheme == b'l' {
             return run_keyed(scheme, command[1], rest);
         }
     }
@@ -118,7 +123,7 @@ fn run(command: &[u8], rest: &[u8]) -> bool {
     run_blocks(command, &data[0..n])
 }
 
-// A command under a key of any length.
+// A command under a key of any length. Those of `l` are of HCH or of a pack, as the second letter says.
 fn run_keyed(scheme: u8, way: u8, rest: &[u8]) -> bool {
     let mut key = [0u8; BYTES];
     let Decoded::Bytes(n) = text::hex::decode_field(rest, b' ', &mut key) else {
@@ -126,10 +131,11 @@ fn run_keyed(scheme: u8, way: u8, rest: &[u8]) -> bool {
     };
     let key = &key[0..n];
     let rest = &rest[2 * n + 1..];
-    if scheme == b'h' {
-        return message::reply(way, key, rest);
+    let lent = scheme == b'l';
+    if scheme == b'h' || lent && (way == b'e' || way == b'd') {
+        return message::reply(lent, way, key, rest);
     }
-    sealing::reply(way, key, rest)
+    sealing::reply(lent, way, key, rest)
 }
 
 // A command on the bytes of its blocks.

@@ -1,14 +1,15 @@
 // The commands of a pack: a key, the number of the pack, a place, and a payload to seal or a block to open.
 use crate::BYTES;
 use crate::fields;
+use crate::fields::Two;
 use blocks::block::Block;
 use libc::STDOUT_FILENO;
 use pack::Opened;
 use text::hex::Decoded;
 
 // Answers a command of a pack behind its key and says so, or writes nothing. Two numbers come first, of 16 and 8 digits and a
-// space each. The last field ends with the line: a space is no digit, so a fifth is refused here.
-pub(crate) fn reply(way: u8, key: &[u8], rest: &[u8]) -> bool {
+// space each.
+pub(crate) fn reply(lent: bool, way: u8, key: &[u8], rest: &[u8]) -> bool {
     let mut pack = [0u8; 8];
     if !fields::filled(rest, &mut pack) {
         return false;
@@ -17,37 +18,59 @@ pub(crate) fn reply(way: u8, key: &[u8], rest: &[u8]) -> bool {
     if !fields::filled(&rest[17..], &mut place) {
         return false;
     }
-    let mut bytes = [0u8; BYTES];
-    let Decoded::Bytes(n) = text::hex::decode(&rest[26..], &mut bytes) else {
-        return false;
-    };
+    let rest = &rest[26..];
     let pack = Block::read(&pack, 0).hi;
     let place = Block::read(&place, 0).hi >> 32;
-    run(way, key, pack, place as u32, &mut bytes[0..n])
+    run(lent, way, key, pack, place as u32, rest)
 }
 
-// Seals the bytes as a payload, or opens them as a block. What the block held before it was sealed has no effect: it is lent not
-// zero, so that an effect would show.
-fn run(way: u8, key: &[u8], pack: u64, place: u32, bytes: &mut [u8]) -> bool {
+// Seals the last field of the line as a payload, or opens it as a block; a line that lends a block for sealing has one field more.
+// What the block held before it was sealed has no effect: it is lent not zero, so that an effect would show. A space is no digit,
+// so a further field is refused here.
+fn run(lent: bool, way: u8, key: &[u8], pack: u64, place: u32, rest: &[u8]) -> bool {
+    if lent && way == b's' {
+        return seal_lent(key, pack, place, rest);
+    }
+    let mut bytes = [0u8; BYTES];
+    let Decoded::Bytes(n) = text::hex::decode(rest, &mut bytes) else {
+        return false;
+    };
     if way == b's' {
-        let mut block = [0xa5u8; 512];
-        let answer = pack::seal(key, bytes, pack, place, &mut block);
-        fields::put_answer(answer.number(), &block);
+        seal(false, key, pack, place, &bytes[0..n], &mut [0xa5u8; 512]);
         return true;
     }
     if way == b'o' {
-        open(key, pack, place, bytes);
+        open(lent, key, pack, place, &mut bytes[0..n]);
         return true;
     }
     false
 }
 
-// Writes the length of the payload in front of the plain block, or the number of the refusal alone.
-fn open(key: &[u8], pack: u64, place: u32, block: &mut [u8]) {
+// Seals the payload at the front of the line into the lent block behind it.
+fn seal_lent(key: &[u8], pack: u64, place: u32, rest: &[u8]) -> bool {
+    let mut payload = [0u8; BYTES];
+    let mut block = [0u8; BYTES];
+    let Two::Lengths(u, n) = fields::decode_two(rest, &mut payload, &mut block) else {
+        return false;
+    };
+    seal(true, key, pack, place, &payload[0..u], &mut block[0..n]);
+    true
+}
+
+// Writes the block, or the number of the refusal.
+fn seal(lent: bool, key: &[u8], pack: u64, place: u32, payload: &[u8], block: &mut [u8]) {
+    let answer = pack::seal(key, payload, pack, place, block);
+    fields::put_answer(lent, answer.number(), block);
+}
+
+// Writes the plain block, or the number of the refusal. Where the line does not lend the block, the payload's length stands in front.
+fn open(lent: bool, key: &[u8], pack: u64, place: u32, block: &mut [u8]) {
     let answer = pack::open(key, pack, place, block);
     if let Opened::Done(u) = answer {
-        io::print_decimal(STDOUT_FILENO, u as u64);
-        io::write_all(STDOUT_FILENO, b" ");
+        if !lent {
+            io::print_decimal(STDOUT_FILENO, u as u64);
+            io::write_all(STDOUT_FILENO, b" ");
+        }
     }
-    fields::put_answer(answer.number(), block);
+    fields::put_answer(lent, answer.number(), block);
 }

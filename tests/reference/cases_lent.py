@@ -1,0 +1,293 @@
+"""The cases of what a call leaves: pairs of a line and its answer.
+
+    le key tweak data                    the lent data enciphered
+    ld key tweak data                    the lent data deciphered
+    ls key pack place payload block      the payload sealed into the lent block
+    lo key pack place block              the lent block opened
+
+The answer is the call's number in decimal, 0 where it was done, a space, and
+all the lent bytes as they are left. The pack number has exactly 16 digits and
+the place exactly 8. The other fields have two digits a byte and may be empty;
+the last is what is lent. NO alone is for a line that is not understood, and
+this is looked at before every number.
+
+Each group of cases draws from a generator with a seed of its own, so that a
+change to one group leaves the others as they were.
+"""
+
+import itertools
+import re
+
+import hch
+import pack as packs
+from cases_hch import MOST_BYTES, byte_drawer, other_bit
+from cases_pack import (LAST_PACK, by_hand, fields, nonzero, number, with_bit,
+                        with_bytes)
+from hch import LEAST
+from lines import LONGEST, NO, digits, gather, line
+from pack import LAST_PLACE, MOST, SIZE, plain_block, seal
+
+DIRECTIONS = {"le": hch.encipher, "ld": hch.decipher}
+WRONG_KEYS = (0, 1, 15, 17, 24, 32)
+WRONG_BLOCKS = (0, 1, 511, 513, 1024)
+HIGH_PLACES = (LAST_PLACE + 1, (1 << 32) - 1)
+
+
+def case(text, lent, call, *arguments):
+    """The line, and its answer by a call that returns what is left where it is
+    done. Each refusal "leaves the lent bytes unchanged"."""
+    try:
+        answer, left = 0, call(*arguments)
+    except hch.Refused as refusal:
+        answer, left = refusal.number, lent
+    assert len(left) == len(lent)
+    return text, b"%d %s" % (answer, digits(left))
+
+
+def hch_case(name, key, tweak, data):
+    return case(line(name, key.hex(), tweak.hex(), data.hex()), data,
+                DIRECTIONS[name], key, tweak, data)
+
+
+def ls_case(key, pack, place, payload, block):
+    return case(fields("ls", key, pack, place, payload, block), block,
+                seal, key, payload, pack, place, len(block))
+
+
+def lo_case(key, pack, place, block):
+    return case(fields("lo", key, pack, place, block), block,
+                lambda *call: packs.open(*call)[1], key, pack, place, block)
+
+
+def answers(wanted, given):
+    """A case with this number. A refused one leaves what was lent."""
+    text, answer = given
+    first, left = answer.split(b" ")
+    assert first == b"%d" % wanted, text[:80]
+    assert wanted == 0 or left == text.split(b" ")[-1], text[:80]
+    return given
+
+
+def leaves(left, given):
+    """A case that is done and leaves these bytes."""
+    assert given[1] == b"0 " + digits(left), given[0][:80]
+    return given
+
+
+def both(wanted, key, tweak, data):
+    """The call with this number in both directions."""
+    for name in DIRECTIONS:
+        yield answers(wanted, hch_case(name, key, tweak, data))
+
+
+def several(*order):
+    """Two or more of these numbers at once, in every way: the one that is
+    returned, "the first in the order", and all of them."""
+    for count in range(2, len(order) + 1):
+        for numbers in itertools.combinations(order, count):
+            yield numbers[0], numbers
+
+
+def message_cases():
+    """Calls that are done, and each number of HCH alone."""
+    draw = byte_drawer("lent: messages")
+    key, tweak = draw(16), draw(16)
+    for length in (LEAST, 17, 20, 32, 33, SIZE, hch.MOST):
+        board = draw(length)
+        yield answers(0, hch_case("le", key, tweak, board))
+        yield leaves(board, hch_case(
+            "ld", key, tweak, hch.encipher(key, tweak, board)))
+    for length in WRONG_KEYS:
+        yield from both(1, draw(length), tweak, draw(40))
+    for length in (0, 1, 15, 17, 32):
+        yield from both(2, key, draw(length), draw(40))
+    for length in (0, 1, 15):
+        yield from both(3, key, tweak, draw(length))
+    yield from both(4, key, tweak, draw(hch.MOST + 1))
+    yield from both(0, key, tweak, draw(LEAST))
+
+
+def message_order_cases():
+    """Several numbers of HCH at once. Data is never both too short and too
+    long."""
+    draw = byte_drawer("lent: message order")
+    for size, wrong, length in ((3, 15, 15), (3, 17, 0), (3, 0, 1),
+                                (4, 17, hch.MOST + 1)):
+        for wanted, numbers in several(1, 2, size):
+            yield from both(wanted, draw(wrong if 1 in numbers else 16),
+                            draw(32 - wrong if 2 in numbers else 16),
+                            draw(length if size in numbers else 40))
+
+
+def sealing_cases():
+    """Payloads sealed, and the blocks opened again."""
+    draw = byte_drawer("lent: sealing")
+    for length, pack, place in ((0, 0, 0), (1, LAST_PACK, LAST_PLACE),
+                                (495, number(draw(8)), 0),
+                                (MOST, number(draw(8)), LAST_PLACE)):
+        key, payload = draw(16), draw(length)
+        yield answers(0, ls_case(key, pack, place, payload, draw(SIZE)))
+        yield leaves(plain_block(payload, pack, place), lo_case(
+            key, pack, place, seal(key, payload, pack, place)))
+
+    # "What the lent block held before has no effect": other bytes, the plain
+    # block, and the sealed one.
+    key, pack, payload = draw(16), number(draw(8)), draw(20)
+    block = seal(key, payload, pack, 3)
+    for lent in (bytes(SIZE), b"\xff" * SIZE, draw(SIZE), block,
+                 plain_block(payload, pack, 3)):
+        yield leaves(block, ls_case(key, pack, 3, payload, lent))
+
+
+def sealing_refusal_cases():
+    """Each number of sealing alone, and several at once."""
+    draw = byte_drawer("lent: sealing refusals")
+    key, pack, payload = draw(16), number(draw(8)), draw(3)
+    for length in WRONG_KEYS:
+        yield answers(1, ls_case(draw(length), pack, 3, payload, draw(SIZE)))
+    for length in WRONG_BLOCKS:
+        yield answers(7, ls_case(key, pack, 3, payload, draw(length)))
+    for length in (MOST + 1, SIZE):
+        yield answers(5, ls_case(key, pack, 3, draw(length), draw(SIZE)))
+    for place in HIGH_PLACES:
+        yield answers(6, ls_case(key, pack, place, payload, draw(SIZE)))
+
+    for wrong, length in ((15, 511), (17, 1), (0, 0)):
+        for wanted, numbers in several(1, 7, 5, 6):
+            yield answers(wanted, ls_case(
+                draw(wrong) if 1 in numbers else key, pack,
+                LAST_PLACE + 4 if 6 in numbers else 3,
+                draw(MOST + 1 if 5 in numbers else 3),
+                draw(length if 7 in numbers else SIZE)))
+    # The payload has the block's bytes, and the block the payload's.
+    yield answers(7, ls_case(key, pack, 3, draw(SIZE), draw(MOST)))
+    yield answers(0, ls_case(key, pack, 3, payload, draw(SIZE)))
+
+
+def opening_refusal_cases():
+    """The numbers of opening before its check, each alone, and several at
+    once, number 8 too."""
+    draw = byte_drawer("lent: opening refusals")
+    key, pack, payload = draw(16), number(draw(8)), draw(100)
+    block = seal(key, payload, pack, 3)
+    for length in WRONG_KEYS:
+        yield answers(1, lo_case(draw(length), pack, 3, block))
+    for length in WRONG_BLOCKS:
+        yield answers(7, lo_case(key, pack, 3, (2 * block)[:length]))
+    # These blocks would pass their check, which is looked at last.
+    for place in HIGH_PLACES:
+        yield answers(6, lo_case(key, pack, place, by_hand(
+            key, pack, place, plain_block(payload, pack, place))))
+
+    for wrong, length in ((15, 511), (17, 1), (0, 0)):
+        for wanted, numbers in several(1, 7, 6, 8):
+            place = LAST_PLACE + 4 if 6 in numbers else 3
+            lent = by_hand(key, pack, place, plain_block(payload, pack, place))
+            if 8 in numbers:
+                lent = with_bit(lent, 0, 0x01)
+            yield answers(wanted, lo_case(
+                draw(wrong) if 1 in numbers else key, pack, place,
+                lent[:length] if 7 in numbers else lent))
+    yield answers(0, lo_case(key, pack, 3, block))
+
+
+def check_cases():
+    """Blocks that fail their check. "Leaving deciphered bytes behind" would
+    show."""
+    draw = byte_drawer("lent: check")
+    key, pack, payload = draw(16), number(draw(8)), nonzero(draw(20))
+    block, plain = seal(key, payload, pack, 3), plain_block(payload, pack, 3)
+
+    # The table's own example, other packs and keys, and damaged blocks.
+    yield answers(8, lo_case(key, pack, 4, block))
+    yield answers(8, lo_case(key, pack ^ 1, 3, block))
+    yield answers(8, lo_case(key, pack ^ 1 << 63, 3, block))
+    yield answers(8, lo_case(other_bit(key, 0x01), pack, 3, block))
+    for at in (0, 15, 16, 496, 511):
+        yield answers(8, lo_case(key, pack, 3, with_bit(block, at, 0x10)))
+    for other in (bytes(SIZE), draw(SIZE), plain):
+        yield answers(8, lo_case(key, pack, 3, other))
+
+    # One part of the check wrong: u, the filling, the pack number, the place
+    # and the last two bytes.
+    full = plain_block(nonzero(draw(MOST)), pack, 3)
+    wrong = [with_bytes(full, 508, (497).to_bytes(2, "big")),
+             with_bytes(plain, 508, (19).to_bytes(2, "big")),
+             *(with_bit(plain, at, 0x01)
+               for at in (20, 495, 496, 503, 504, 507, 510, 511))]
+    for other in wrong:
+        yield answers(8, lo_case(key, pack, 3, by_hand(key, pack, 3, other)))
+    yield answers(0, lo_case(key, pack, 3, by_hand(key, pack, 3, plain)))
+
+
+def line_cases():
+    """Lines that are not understood, with good ones in between. Two spaces
+    are an empty field, so that some differ from a refusal by a space."""
+    draw = byte_drawer("lent: lines")
+    k, t, d, n, p, b = (draw(length).hex() for length in (16, 16, 20, 8, 4, 5))
+    forms = {"le": [k, t, d], "ld": [k, t, d], "ls": [k, n, p, d, b],
+             "lo": [k, n, p, b]}
+
+    for name, good in forms.items():
+        yield line(name), NO
+        yield line(name, *good, ""), NO
+        yield line(name, *good, "00"), NO
+        for at, field in enumerate(good):
+            before, after = good[:at], good[at + 1:]
+            # A field less, and one more, which is empty.
+            yield line(name, *before, *after), NO
+            yield line(name, *before, "", field, *after), NO
+            # An odd number of digits, upper case and other characters.
+            for bad in (field[1:], field + "0", "A" + field[1:],
+                        field[:-1] + "g", field[:-1] + "\r"):
+                yield line(name, *before, bad, *after), NO
+            # The pack number and the place of other lengths.
+            if field in (n, p):
+                for bad in ("", field[2:], field + "00"):
+                    yield line(name, *before, bad, *after), NO
+        # Unknown commands.
+        for other in ("l", "lx", "lh", "lp", "L" + name[1:], name.upper(),
+                      name[0] + name[1].upper(), name + "e", "l" + name,
+                      name[::-1]):
+            yield line(other, *good), NO
+        yield from both(0, draw(16), draw(16), draw(17))
+
+    # The longest line that is understood, and one byte more.
+    longest = draw(MOST_BYTES)
+    yield answers(1, hch_case("ld", b"", b"", longest))
+    bad = line("le", "", "", longest.hex() + "00")
+    assert len(bad) == LONGEST + 1
+    yield bad, NO
+    # Understood: lines whose last field is empty.
+    yield from both(1, b"", b"", b"")
+    yield answers(1, ls_case(b"", 0, 0, b"", b""))
+    yield answers(1, lo_case(b"", 0, 0, b""))
+    yield from both(0, draw(16), draw(16), draw(LEAST))
+
+
+UNDERSTOOD = re.compile(
+    rb"l[ed]( B){3}|ls B D{16} D{8} B B|lo B D{16} D{8} B".replace(
+        b"B", rb"(D{2})*").replace(b"D", rb"[0-9a-f]"))
+
+
+def cases():
+    """All cases of this part; the last line is understood."""
+    return gather((message_cases, message_order_cases, sealing_cases,
+                   sealing_refusal_cases, opening_refusal_cases, check_cases,
+                   line_cases), UNDERSTOOD)
+
+
+def check():
+    """The table's small examples, and the form of an answer."""
+    key, block = bytes(16), seal(bytes(16), b"ABC", 1, 3)
+    zeros, full = b"00" * 16, b"00" * SIZE
+    assert hch_case("le", b"\x00", key, key)[1] == b"1 " + zeros
+    assert hch_case("ld", key, b"", key)[1] == b"2 " + zeros
+    assert hch_case("le", key, key, b"")[1] == b"3 "
+    assert hch_case("ld", key, key, bytes(15))[1] == b"3 " + zeros[2:]
+    assert hch_case("le", key, key, bytes(4097))[1] == b"4 " + b"00" * 4097
+    assert ls_case(key, 1, 3, bytes(497), bytes(SIZE))[1] == b"5 " + full
+    assert ls_case(key, 1, 65536, b"", bytes(SIZE))[1] == b"6 " + full
+    assert ls_case(key, 1, 3, b"ABC", bytes(511))[1] == b"7 " + full[2:]
+    assert ls_case(key, 1, 3, b"ABC", bytes(SIZE))[1] == b"0 " + digits(block)
+    assert lo_case(key, 1, 4, block)[1] == b"8 " + digits(block)
