@@ -56,9 +56,9 @@
 #include <stddef.h>
 #include <stdint.h>
 
-/* The version of the library: 0.7. */
+/* The version of the library: 0.8. */
 #define BOARDS_VERSION_MAJOR 0
-#define BOARDS_VERSION_MINOR 7
+#define BOARDS_VERSION_MINOR 8
 
 /* The limits, in bytes but for the last. */
 #define BOARDS_KEY_SIZE 16

@@ -1,9 +1,10 @@
 // 01's four functions for the app in C. include/boards.h declares and explains them; a slice is there a pointer and a length. Each answers the number of
 // the call that it makes, 0 where the work was done, and carries that call's promises.
 ghost use mathlib.Core.Path.{_≡_};
+ghost use lib.ListN.{length};
 ghost use Rattle.strings.specs.Call.{numberOf, leftBy};
 ghost use Rattle.hch.specs.Hch.{enciphered, deciphered, hch as scheme};
-ghost use Rattle.hch.specs.Call.{answerOf, OnePlaintext};
+ghost use Rattle.hch.specs.Call.{answerOf, IsCipher, OnePlaintext};
 ghost use Rattle.pack.specs.Sealing.{seal, answerOf as answerOfSealing};
 ghost use Rattle.pack.specs.Opening.{decipheredBlock, numberOf as numberOfOpening, answerOf as answerOfOpening, OneBlock, Meaning};
 
@@ -12,18 +13,20 @@ ghost use Rattle.pack.specs.Opening.{decipheredBlock, numberOf as numberOfOpeni
 pub extern "C" fn boards_encipher(key: &[u8], tweak: &[u8], message: &mut [u8]) -> u32
     ensures { λ r. ⌜ r ≡ numberOf (answerOf (now (key .entry)) (now (tweak .entry)) (now (message .entry))) ⌝ }
     ensures { λ r. ⌜ now (message .exit) ≡ leftBy r (enciphered (now (key .entry)) (now (tweak .entry)) (now (message .entry))) (now (message .entry)) ⌝ }
+    ensures { λ r. ⌜ IsCipher r (now (key .entry)) (now (tweak .entry)) (length (now (message .entry))) ⌝ }
 {
     hch::encipher(key, tweak, message).number()
 }
 
-// Deciphers the message in place by HCH. What it leaves where the work was done is the one message that enciphers to what was lent.
+// Deciphers the ciphertext in place by HCH. What it leaves where the work was done is the one message that enciphers to what was lent.
 #[no_mangle]
-pub extern "C" fn boards_decipher(key: &[u8], tweak: &[u8], message: &mut [u8]) -> u32
-    ensures { λ r. ⌜ r ≡ numberOf (answerOf (now (key .entry)) (now (tweak .entry)) (now (message .entry))) ⌝ }
-    ensures { λ r. ⌜ now (message .exit) ≡ leftBy r (deciphered (now (key .entry)) (now (tweak .entry)) (now (message .entry))) (now (message .entry)) ⌝ }
-    ensures { λ r. ⌜ OnePlaintext r (now (key .entry)) (now (tweak .entry)) (now (message .entry)) (now (message .exit)) ⌝ }
+pub extern "C" fn boards_decipher(key: &[u8], tweak: &[u8], ciphertext: &mut [u8]) -> u32
+    ensures { λ r. ⌜ r ≡ numberOf (answerOf (now (key .entry)) (now (tweak .entry)) (now (ciphertext .entry))) ⌝ }
+    ensures { λ r. ⌜ now (ciphertext .exit) ≡ leftBy r (deciphered (now (key .entry)) (now (tweak .entry)) (now (ciphertext .entry))) (now (ciphertext .entry)) ⌝ }
+    ensures { λ r. ⌜ IsCipher r (now (key .entry)) (now (tweak .entry)) (length (now (ciphertext .entry))) ⌝ }
+    ensures { λ r. ⌜ OnePlaintext r (now (key .entry)) (now (tweak .entry)) (now (ciphertext .entry)) (now (ciphertext .exit)) ⌝ }
 {
-    hch::decipher(key, tweak, message).number()
+    hch::decipher(key, tweak, ciphertext).number()
 }
 
 // Seals a payload into the lent block for a pack and a place. What it leaves where the work was done is the one block that opens to them.

@@ -1,6 +1,6 @@
 -- What the code does with the lent bytes, as steps of Table II.
 -- Assumes nothing.
-use Prim.Native.Nat.{ℕ, _-_, _*_, _≤_}
+use Prim.Native.Nat.{ℕ, _-_, _≤_}
 use mathlib.Core.Path.{_≡_}
 use mathlib.Core.List.{List, _++_}
 use lib.ListN.{length, take, drop}
@@ -13,7 +13,7 @@ use Rattle.blocks.specs.Counter.{maskedBytes}
 use Rattle.strings.proofs.Bytes.{length-bytes}
 use Rattle.blocks.proofs.Blocks.{block-first}
 use Rattle.strings.proofs.Place.{part-behind, put-back, overwrite-front-part}
-use Rattle.hch.specs.Hch.{bin, H, Ctr, encipher, decipher}
+use Rattle.hch.specs.Hch.{lengthBlock, H, Ctr, encipher, decipher}
 use Rattle.hch.specs.Inner.{ctrBytes, fromI}
 
 -- The counter step on the part behind the first block, the part put back, the hash of it written in front.
@@ -31,7 +31,7 @@ finished E sum R Q I A₁ s h =
 -- The first block read where it stands: Table II, either side.
 pub enciphering : (E timesX : ℕ → ℕ) (sum : ℕ → List ℕ → ℕ) (T : ℕ) (s : List ℕ) → 16 ≤ length s
     → let R = E T in
-    let Q = E (R ⊕ bin (8 * length s)) in
+    let Q = E (R ⊕ lengthBlock (length s)) in
     let M₁ = H sum R Q (firstBlock s) (blocks (drop 16 s)) in
     fromI E sum R (timesX Q) (M₁ ⊕ E M₁) (E M₁) (drop 16 s) ≡ encipher E timesX sum T s
 unfolding encipher fromI ctrBytes maskedBytes Ctr
@@ -39,7 +39,7 @@ enciphering E timesX sum T s h = rw (block-first s h)
 
 pub deciphering : (E D timesX : ℕ → ℕ) (sum : ℕ → List ℕ → ℕ) (T : ℕ) (s : List ℕ) → 16 ≤ length s
     → let R = E T in
-    let Q = E (R ⊕ bin (8 * length s)) in
+    let Q = E (R ⊕ lengthBlock (length s)) in
     let U₁ = H sum R (timesX Q) (firstBlock s) (blocks (drop 16 s)) in
     fromI E sum R Q (D U₁ ⊕ U₁) (D U₁) (drop 16 s) ≡ decipher E D timesX sum T s
 unfolding decipher fromI ctrBytes maskedBytes Ctr

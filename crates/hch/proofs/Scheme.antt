@@ -16,7 +16,7 @@ use Rattle.blocks.proofs.Blocks.{blocks-below}
 use Rattle.blocks.proofs.Counter.{counter-cipher}
 use Rattle.strings.proofs.Pass.{pass, pass-cipher}
 use Rattle.strings.proofs.Permutations.{agreeing}
-use Rattle.hch.specs.Hch.{bin, H, Ctr, encipher, decipher, Parts}
+use Rattle.hch.specs.Hch.{bin, lengthBlock, H, Ctr, encipher, decipher, Parts}
 use Rattle.hch.specs.Inner.{ctrBytes, fromI}
 
 bin-below : (l : ℕ) → IsBlock (bin l)
@@ -46,19 +46,19 @@ one-pass E F sum R Q Q′ s =
     rw (first-first sum R Q (number (take 16 s)) (drop 16 s), first-first sum R Q′ (F a) (ctrBytes E (E (a ⊕ F a)) (drop 16 s)))
 
 encipher-pass : (E timesX : ℕ → ℕ) (sum : ℕ → List ℕ → ℕ) (T : ℕ) (s : List ℕ)
-    → let Q = E (E T ⊕ bin (8 * length s)) in
+    → let Q = E (E T ⊕ lengthBlock (length s)) in
     encipher E timesX sum T s ≡ pass 16 E (others sum (E T) Q) (others sum (E T) (timesX Q)) (λ I. ctrBytes E (E I)) s
 unfolding encipher fromI ctrBytes maskedBytes Ctr
 encipher-pass E timesX sum T s =
-    let Q = E (E T ⊕ bin (8 * length s)) in
+    let Q = E (E T ⊕ lengthBlock (length s)) in
     one-pass E E sum (E T) Q (timesX Q) s
 
 decipher-pass : (E D timesX : ℕ → ℕ) (sum : ℕ → List ℕ → ℕ) (T : ℕ) (s : List ℕ)
-    → let Q = E (E T ⊕ bin (8 * length s)) in
+    → let Q = E (E T ⊕ lengthBlock (length s)) in
     decipher E D timesX sum T s ≡ pass 16 D (others sum (E T) (timesX Q)) (others sum (E T) Q) (λ I. ctrBytes E (E I)) s
 unfolding decipher fromI ctrBytes maskedBytes Ctr
 decipher-pass E D timesX sum T s =
-    let Q = E (E T ⊕ bin (8 * length s)) in
+    let Q = E (E T ⊕ lengthBlock (length s)) in
     let U₁ : ℕ = H sum (E T) (timesX Q) (number (take 16 s)) (blocks (drop 16 s)) in
     rw (xor-comm (D U₁) U₁) (one-pass E D sum (E T) (timesX Q) Q s)
 
@@ -71,12 +71,12 @@ module _ {E D timesX : ℕ → ℕ} {sum : ℕ → List ℕ → ℕ} (parts : Pa
   unfolding others
   others-below q hq s h = xor-below 128 hq (parts .sum-keeps (E T) (blocks s) (keeps T hT) (blocks-below s (h .1)))
 
-  key-below : IsBlock (E (E T ⊕ bin (8 * n)))
-  key-below = keeps (E T ⊕ bin (8 * n)) (xor-below 128 (keeps T hT) (bin-below (8 * n)))
+  key-below : IsBlock (E (E T ⊕ lengthBlock n))
+  key-below = keeps (E T ⊕ lengthBlock n) (xor-below 128 (keeps T hT) (bin-below (8 * n)))
 
   pub scheme-cipher : 16 ≤ n → Cipher n (encipher E timesX sum T) (decipher E D timesX sum T)
   scheme-cipher l =
-      let Q = E (E T ⊕ bin (8 * n)) in
+      let Q = E (E T ⊕ lengthBlock n) in
       agreeing
       (λ s h. rw (h .0) at (encipher-pass E timesX sum T s))
       (λ s h. rw (h .0) at (decipher-pass E D timesX sum T s))

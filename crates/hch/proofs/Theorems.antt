@@ -24,7 +24,7 @@ use Rattle.strings.proofs.One.{one-preimage}
 use Rattle.blocks.proofs.Ring.{x-below, ring-of-blocks}
 use Rattle.blocks.proofs.Horner.{power-sum-below}
 use Rattle.blocks.proofs.Theorems as Blocks
-use Rattle.hch.specs.Hch.{bin, H, Ctr, encipher, Parts, enciphered, deciphered}
+use Rattle.hch.specs.Hch.{lengthBlock, H, Ctr, encipher, Parts, enciphered, deciphered}
 use Rattle.hch.specs.Theorems.{Theorems}
 use Rattle.hch.proofs.Scheme.{scheme-cipher}
 
@@ -38,19 +38,19 @@ own-parts c p = record {
 tweak-block : (tweak : List ℕ) → OfLength 16 tweak → IsBlock (number tweak)
 tweak-block tweak h = rw (h .0) at (number-below tweak (h .1))
 
-hch-cipher : (key tweak : List ℕ) (n : ℕ) → OfLength 16 tweak → 16 ≤ n → Cipher n (enciphered key tweak) (deciphered key tweak)
+pub hch-cipher : (key tweak : List ℕ) (n : ℕ) → OfLength 16 tweak → 16 ≤ n → Cipher n (enciphered key tweak) (deciphered key tweak)
 unfolding enciphered deciphered
 hch-cipher key tweak n h l = scheme-cipher (own-parts (aes key) (Blocks.theorems .aes-permutation key)) (number tweak) n (tweak-block tweak h) l
 
-pub one-plaintext : (key tweak : List ℕ) (n : ℕ) → OfLength 16 tweak → 16 ≤ n
+one-plaintext : (key tweak : List ℕ) (n : ℕ) → OfLength 16 tweak → 16 ≤ n
     → (C : List ℕ) → OfLength n C → OnePreimage n (enciphered key tweak) C (deciphered key tweak C)
 one-plaintext key tweak n h l C k = one-preimage (hch-cipher key tweak n h l) C k
 
 one-block : (E timesX : ℕ → ℕ) (T : ℕ) (P : List ℕ) → length P ≡ 16
-    → let Q = E (E T ⊕ bin 128) in encipher E timesX powerSum T P ≡ bytes 16 (timesX Q ⊕ E (number P ⊕ Q))
+    → let Q = E (E T ⊕ lengthBlock 16) in encipher E timesX powerSum T P ≡ bytes 16 (timesX Q ⊕ E (number P ⊕ Q))
 unfolding encipher H Ctr masked string powerSumOver
 one-block E step T P h =
-    let Q : ℕ = E (E T ⊕ bin 128) in
+    let Q : ℕ = E (E T ⊕ lengthBlock 16) in
     let short : length P ≤ 16 = omega (arith, h) in
     rw (h, take-all 16 P short, drop-of-length-le P short, blocks-nil, append-nil) (simp (xor-zero, xor-comm Q (number P)))
 

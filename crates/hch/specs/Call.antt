@@ -5,11 +5,12 @@ use mathlib.Core.Bool.{not}
 use mathlib.Core.List.{List, [], _∷_}
 use lib.Dec.{ltb, eqb}
 use lib.ListN.{length}
+use Rattle.strings.specs.Cipher.{Cipher}
 use Rattle.strings.specs.One.{OnePreimage}
 use Rattle.strings.specs.Call.{Tests, looksAt}
 use Rattle.strings.specs.declared.refusal.Answer.{Answer}
 use Rattle.strings.specs.declared.refusal.Refusal.the-variants.{KeyLength, TweakLength, TooShort, TooLong}
-use Rattle.hch.specs.Hch.{enciphered, hch}
+use Rattle.hch.specs.Hch.{enciphered, deciphered, hch}
 
 -- 01, "HCH looks at 1, 2, 3, 4 in this order".
 unfoldable pub tests : (key tweak message : List ℕ) → Tests
@@ -22,6 +23,10 @@ tests key tweak message =
 
 abbrev pub answerOf : (key tweak message : List ℕ) → Answer
 answerOf key tweak message = looksAt (tests key tweak message)
+
+-- Where the call was done, enciphering and deciphering under this key and tweak are a cipher of n bytes and its inverse.
+abbrev pub IsCipher : (number : ℕ) (key tweak : List ℕ) (n : ℕ) → Type 0
+IsCipher number key tweak n = number ≡ 0 → Cipher n (enciphered key tweak) (deciphered key tweak)
 
 -- Demand 3: where the call was done, exactly one message of the length of C enciphers to C, and it is P.
 abbrev pub OnePlaintext : (number : ℕ) (key tweak C P : List ℕ) → Type 0

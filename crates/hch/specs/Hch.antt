@@ -16,6 +16,14 @@ use Rattle.blocks.specs.Aes.{isKey, aes}
 unfoldable pub bin : ℕ → ℕ
 bin l = l % 2 ^ 128
 
+-- bin(l) of a message of n bytes: l is its length in bits, and a byte is 8 of them.
+abbrev pub lengthBlock : ℕ → ℕ
+lengthBlock n = bin (8 * n)
+
+-- What stands behind the first block of a message: the bytes of P₂, …, Pₘ.
+abbrev pub behindFirst : List ℕ → List ℕ
+behindFirst P = drop 16 P
+
 -- Formula (1): H with R and Q over A₁, A₂, …, Aₘ. For HCH the keyed sum is A₂ R ^ (m - 1) ⊕ … ⊕ Aₘ R, `powerSum` of the blocks' BlockField.antt.
 module _ (sum : ℕ → List ℕ → ℕ) where
   unfoldable pub H : ℕ → ℕ → ℕ → List ℕ → ℕ
@@ -31,10 +39,10 @@ module _ (E timesX : ℕ → ℕ) (sum : ℕ → List ℕ → ℕ) where
   unfoldable pub encipher : ℕ → List ℕ → List ℕ
   encipher T P =
       let P₁ = number (take 16 P) in
-      let P₂…Pₘ = drop 16 P in
+      let P₂…Pₘ = behindFirst P in
       -- 1. R = E(T); Q = E(R ⊕ bin(l)), with the length l in bits
       let R = E T in
-      let Q = E (R ⊕ bin (8 * length P)) in
+      let Q = E (R ⊕ lengthBlock (length P)) in
       -- 2. Mₘ = pad(Pₘ)
       let P₂…Mₘ = blocks P₂…Pₘ in
       -- 3. M₁ = H with R and Q over P₁, …, Pₘ₋₁, Mₘ
@@ -58,10 +66,10 @@ module _ (E D timesX : ℕ → ℕ) (sum : ℕ → List ℕ → ℕ) where
   unfoldable pub decipher : ℕ → List ℕ → List ℕ
   decipher T C =
       let C₁ = number (take 16 C) in
-      let C₂…Cₘ = drop 16 C in
+      let C₂…Cₘ = behindFirst C in
       -- 1. R = E(T); Q = E(R ⊕ bin(l)), with the length l in bits
       let R = E T in
-      let Q = E (R ⊕ bin (8 * length C)) in
+      let Q = E (R ⊕ lengthBlock (length C)) in
       -- 2. Uₘ = pad(Cₘ)
       let C₂…Uₘ = blocks C₂…Cₘ in
       -- 3. U₁ = H with R and xQ over C₁, …, Cₘ₋₁, Uₘ

@@ -10,7 +10,7 @@ use Rattle.strings.specs.One.{OnePreimage}
 use Rattle.strings.specs.Cipher.{Cipher}
 use Rattle.blocks.specs.Blocks.{IsBlock}
 use Rattle.blocks.specs.BlockCipher.{BlockCipher, BlockPermutation}
-use Rattle.hch.specs.Hch.{bin, Parts, encipher, decipher, enciphered, deciphered}
+use Rattle.hch.specs.Hch.{lengthBlock, Parts, encipher, decipher, enciphered, deciphered}
 
 pub record Theorems : Type 0 where
   -- For every block permutation, step by x and keyed sum that keep blocks, every tweak and every n from 16 on: HCH keeps the messages of n bytes,
@@ -22,7 +22,7 @@ pub record Theorems : Type 0 where
       → (C : List ℕ) → OfLength n C → OnePreimage n (encipher E timesX sum T) C (decipher E D timesX sum T C)
   -- The paper's section II-A: a message of one block.
   pub one-block : (E timesX : ℕ → ℕ) (T : ℕ) (P : List ℕ) → length P ≡ 16
-      → let Q = E (E T ⊕ bin 128) in encipher E timesX powerSum T P ≡ bytes 16 (timesX Q ⊕ E (number P ⊕ Q))
+      → let Q = E (E T ⊕ lengthBlock 16) in encipher E timesX powerSum T P ≡ bytes 16 (timesX Q ⊕ E (number P ⊕ Q))
   -- 01's step by x and the sum of formula (1) serve every block permutation in the place of AES.
   pub own-parts : (c : BlockCipher) → BlockPermutation c → Parts (c .E) (c .D) timesX powerSum
   pub permutation-one-plaintext : (c : BlockCipher) → BlockPermutation c → (T n : ℕ) → IsBlock T → 16 ≤ n

@@ -8,10 +8,10 @@ ghost use Rattle.strings.specs.Inner.{overwrite};
 ghost use Rattle.blocks.specs.Blocks.{firstBlock, blocks};
 ghost use Rattle.blocks.specs.BlockField.{timesX, powerSum};
 ghost use Rattle.blocks.specs.Inner.{value, under};
-ghost use Rattle.strings.specs.Call.{numberOf, leftBy};
-ghost use Rattle.hch.specs.Hch.{bin, H as polynomialHash, encipher, decipher, enciphered, deciphered, hch as scheme};
+ghost use Rattle.strings.specs.Call.{numberOf, looksAt, leftBy};
+ghost use Rattle.hch.specs.Hch.{bin, lengthBlock, behindFirst, H as polynomialHash, encipher, decipher, enciphered, deciphered, hch as scheme};
 ghost use Rattle.hch.specs.Inner.{ctrBytes, fromI};
-ghost use Rattle.hch.specs.Call.{answerOf, OnePlaintext};
+ghost use Rattle.hch.specs.Call.{tests, answerOf, IsCipher, OnePlaintext};
 use blocks::aes;
 use blocks::aes::ExpandedKey;
 use blocks::block::Block;
@@ -28,7 +28,7 @@ pub fn is_key(key: &[u8]) -> bool
 
 // What a call looks at, in 01's order.
 fn judge(key: &[u8], tweak: &[u8], message: &[u8]) -> Answer
-    ensures { λ r. ⌜ r ≡ answerOf (now (key .entry)) (now (tweak .entry)) (now (message .entry)) ⌝ }
+    ensures { λ r. ⌜ r ≡ looksAt (tests (now (key .entry)) (now (tweak .entry)) (now (message .entry))) ⌝ }
 {
     let valid = is_key(key);
     Answer::Done
@@ -51,7 +51,7 @@ fn xor_bin(a: Block, n: usize) -> Block
 // Step 1: Q, from R and the length in bytes.
 fn hash_q(expanded: ExpandedKey, r: Block, length: usize) -> Block
     requires { ⌜ length ≤ 4096 ⌝ }
-    ensures { λ x. ⌜ value x ≡ under expanded .E (value r ⊕ bin (8 * length)) ⌝ }
+    ensures { λ x. ⌜ value x ≡ under expanded .E (value r ⊕ lengthBlock length) ⌝ }
 {
     expanded.encipher(xor_bin(r, 8 * length))
 }
@@ -59,7 +59,7 @@ fn hash_q(expanded: ExpandedKey, r: Block, length: usize) -> Block
 // Formula (1): the first block by itself, the others where they stand in `message`, behind the first 16 bytes.
 fn hash(r: Block, q: Block, first: Block, message: &[u8]) -> Block
     requires { ⌜ 16 ≤ length (now message) ⌝ }
-    ensures { λ x. ⌜ value x ≡ polynomialHash powerSum (value r) (value q) (value first) (blocks (drop 16 (now (message .entry)))) ⌝ }
+    ensures { λ x. ⌜ value x ≡ polynomialHash powerSum (value r) (value q) (value first) (blocks (behindFirst (now (message .entry)))) ⌝ }
 {
     q.xor(first).xor(field::power_sum(r, &message[16..]))
 }
@@ -86,7 +86,7 @@ fn counter(expanded: ExpandedKey, s: Block, message: &mut [u8])
 // Table II from I on: the counter step on the bytes from 16 on, and the hash of what they are then, in the place of the first block.
 fn finish(expanded: ExpandedKey, r: Block, q: Block, i: Block, first: Block, message: &mut [u8])
     requires { ⌜ 16 ≤ length (now message) ⌝ }
-    ensures { λ _. ⌜ now (message .exit) ≡ fromI (under expanded .E) powerSum (value r) (value q) (value i) (value first) (drop 16 (now (message .entry))) ⌝ }
+    ensures { λ _. ⌜ now (message .exit) ≡ fromI (under expanded .E) powerSum (value r) (value q) (value i) (value first) (behindFirst (now (message .entry))) ⌝ }
 {
     let s = expanded.encipher(i);
     counter(expanded, s, &mut message[16..]);
@@ -123,6 +123,7 @@ fn decipher_message(expanded: ExpandedKey, tweak: Block, message: &mut [u8])
 pub fn encipher(key: &[u8], tweak: &[u8], message: &mut [u8]) -> Answer
     ensures { λ r. ⌜ r ≡ answerOf (now (key .entry)) (now (tweak .entry)) (now (message .entry)) ⌝ }
     ensures { λ r. ⌜ now (message .exit) ≡ leftBy (numberOf r) (enciphered (now (key .entry)) (now (tweak .entry)) (now (message .entry))) (now (message .entry)) ⌝ }
+    ensures { λ r. ⌜ IsCipher (numberOf r) (now (key .entry)) (now (tweak .entry)) (length (now (message .entry))) ⌝ }
 {
     let answer = judge(key, tweak, message);
     if let Answer::Done = answer {
@@ -133,17 +134,18 @@ pub fn encipher(key: &[u8], tweak: &[u8], message: &mut [u8]) -> Answer
     answer
 }
 
-// Deciphers the message in place, or refuses and leaves it as it is.
-pub fn decipher(key: &[u8], tweak: &[u8], message: &mut [u8]) -> Answer
-    ensures { λ r. ⌜ r ≡ answerOf (now (key .entry)) (now (tweak .entry)) (now (message .entry)) ⌝ }
-    ensures { λ r. ⌜ now (message .exit) ≡ leftBy (numberOf r) (deciphered (now (key .entry)) (now (tweak .entry)) (now (message .entry))) (now (message .entry)) ⌝ }
-    ensures { λ r. ⌜ OnePlaintext (numberOf r) (now (key .entry)) (now (tweak .entry)) (now (message .entry)) (now (message .exit)) ⌝ }
+// Deciphers the ciphertext in place, or refuses and leaves it as it is.
+pub fn decipher(key: &[u8], tweak: &[u8], ciphertext: &mut [u8]) -> Answer
+    ensures { λ r. ⌜ r ≡ answerOf (now (key .entry)) (now (tweak .entry)) (now (ciphertext .entry)) ⌝ }
+    ensures { λ r. ⌜ now (ciphertext .exit) ≡ leftBy (numberOf r) (deciphered (now (key .entry)) (now (tweak .entry)) (now (ciphertext .entry))) (now (ciphertext .entry)) ⌝ }
+    ensures { λ r. ⌜ IsCipher (numberOf r) (now (key .entry)) (now (tweak .entry)) (length (now (ciphertext .entry))) ⌝ }
+    ensures { λ r. ⌜ OnePlaintext (numberOf r) (now (key .entry)) (now (tweak .entry)) (now (ciphertext .entry)) (now (ciphertext .exit)) ⌝ }
 {
-    let answer = judge(key, tweak, message);
+    let answer = judge(key, tweak, ciphertext);
     if let Answer::Done = answer {
         let expansion = ExpandedKey::new(key);
         let expanded = expansion.expanded;
-        decipher_message(expanded, Block::read(tweak, 0), message);
+        decipher_message(expanded, Block::read(tweak, 0), ciphertext);
     }
     answer
 }

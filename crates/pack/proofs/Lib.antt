@@ -1,2 +1,3 @@
 pub mod OneBlock
+pub mod Admits
 pub mod Theorems

@@ -1,4 +1,4 @@
--- Sealing and opening by any scheme that is a tweakable cipher of 512 bytes.
+-- Sealing and opening by any scheme that is a cipher of 512 bytes under the key and the tweak.
 -- Assumes nothing.
 use Prim.Native.Nat.{ℕ, _≤_}
 use mathlib.Core.Path.{_≡_, refl, sym, ap, _∙_}
@@ -12,7 +12,7 @@ use lib.ListN.{length, getD, take}
 use lib.Seq.{length-take-le}
 use Rattle.strings.specs.Bytes.{Bytes, OfLength, equal}
 use Rattle.strings.specs.Call.{numberOf as numberOfTests, looksAt, leftBy}
-use Rattle.strings.specs.Cipher.{Cipher, TweakableCipher, Scheme}
+use Rattle.strings.specs.Cipher.{Scheme}
 use Rattle.strings.specs.declared.refusal.Answer.{Answer}
 use Rattle.strings.specs.declared.refusal.Answer.the-variants.{Done as NoTestHolds, Refused as FirstIs}
 use Rattle.strings.specs.declared.refusal.Refusal.{Refusal}
@@ -20,12 +20,12 @@ use Rattle.strings.specs.declared.refusal.Refusal.the-variants.{CheckFailed}
 use Rattle.strings.proofs.Bytes.{below-take}
 use Rattle.strings.proofs.Equal.{both, equal-refl, equal-true}
 use Rattle.strings.proofs.One.{one-string}
-use Rattle.strings.proofs.Refusals.{OneHolds, none-holds, one-holds, refused-early, not-false, not-true}
+use Rattle.strings.proofs.Refusals.{OneHolds, none-holds, all-passed, one-holds, refused-early, not-false, not-true, refusal-leaves, refused-some}
 use Rattle.layout.specs.Layout.{plainBlock, tweak, used, payloadOf, passes}
-use Rattle.layout.proofs.Check.{tweak-of-length, plain-of-length, used-plain, take-plain, passes-plain, passes-only}
+use Rattle.layout.proofs.Check.{plain-of-length, used-plain, take-plain, passes-plain, passes-only}
 use Rattle.pack.specs.Sealing.{seal, WithinLimits, tests as testsOfSealing, answerOf as answerOfSealing}
 use Rattle.pack.specs.Opening.{numberOf, valuesOf, returning, decipheredBlock, tests, answerOf, opensTo, OneBlock, NoPayload, Eight, Meaning}
-use Rattle.pack.specs.Inner.{Openable}
+use Rattle.pack.specs.Inner.{CipherAt, Openable, Opens}
 use Rattle.pack.specs.declared.opening.Opened.{Opened}
 use Rattle.pack.specs.declared.opening.Opened.the-variants.{Done, Refused}
 
@@ -76,9 +76,24 @@ module _ (S : Scheme) (key : List ℕ) (pack place : ℕ) (C : List ℕ) where
       let t = none-holds (take 3 (tests S key pack place C)) (ap numberOfTests e) in
       record { is-key = not-false _ (t .0); block-length = eqb-true (length C) 512 (not-false _ (t .1 .0)); place-limit = ltb-false 65535 place (t .1 .1 .0) }
 
-  -- A refusal before that is the answer.
-  pub refused-first : {why : Refusal} → looksAt (take 3 (tests S key pack place C)) ≡ FirstIs why → Refused why ≡ answerOf S key pack place C
-  refused-first {why} e = sym (ap (returning (used (decipheredBlock S key pack place C))) (refused-early 3 (tests S key pack place C) why e))
+  -- A refusal before that is the answer, and leaves the block. Then one of the numbers 1, 7 and 6 applies, and number 8 is not asked for.
+  pub refused-first : {why : Refusal} → looksAt (take 3 (tests S key pack place C)) ≡ FirstIs why → Opens S key pack place C (Refused why) C
+  unfolding tests
+  refused-first {why} e =
+      let B = decipheredBlock S key pack place C in
+      let passed : Openable S key place C → looksAt (take 3 (tests S key pack place C)) ≡ NoTestHolds =
+      λ o. rw (o .is-key, eq-eqb (length C) 512 (o .block-length), le-ltb 65535 place (o .place-limit)) (all-passed _ (refl, (refl, (refl, tt)))) in
+      let refused : FirstIs why ≡ FirstIs why = refl in
+      record {
+        answered = sym (ap (returning (used B)) (refused-early 3 (tests S key pack place C) why e));
+        left = refusal-leaves why B C;
+        meaning = record {
+          used-limit = λ z. absurd (refused-some refused z);
+          sealed = λ z. absurd (refused-some refused z);
+          one-block = λ z. absurd (refused-some refused z);
+          eight = λ k h l. absurd (refused-some e (ap numberOfTests (passed (record { is-key = k; block-length = h; place-limit = l }))));
+        };
+      }
 
   by-tests : numberOf (answerOf S key pack place C) ≡ numberOfTests (looksAt (tests S key pack place C))
   by-tests = number-returned (used (decipheredBlock S key pack place C)) (looksAt (tests S key pack place C))
@@ -111,26 +126,23 @@ module _ (S : Scheme) (key : List ℕ) (pack place : ℕ) (C : List ℕ) where
   failed : numberOf (answerOf S key pack place C) ≡ 8 → passes pack place (decipheredBlock S key pack place C) ≡ false
   failed e = last-holds (one-holds 7 (tests S key pack place C) (sym by-tests ∙ e))
 
--- ---- over any tweakable cipher of 512 bytes
+-- ---- over any scheme that is a cipher of 512 bytes under the key and the tweak
 
-module _ (S : Scheme) (key : List ℕ) (cipher : TweakableCipher 16 512 (S .encipher key) (S .decipher key)) (pack place : ℕ) where
-  at-tweak : Cipher 512 (S .encipher key (tweak pack place)) (S .decipher key (tweak pack place))
-  at-tweak = cipher (tweak pack place) (tweak-of-length pack place)
-
+module _ (S : Scheme) (key : List ℕ) (pack place : ℕ) (cipher : CipherAt S key pack place) where
   -- What was deciphered is given back when it is enciphered again.
   pub given-back : (C : List ℕ) → OfLength 512 C → S .encipher key (tweak pack place) (decipheredBlock S key pack place C) ≡ C
   unfolding decipheredBlock
-  given-back = at-tweak .undoes
+  given-back = cipher .undoes
 
   -- What was sealed: 512 bytes, which decipher to the plain block.
   module _ (payload : List ℕ) (b : Bytes payload) (h : length payload ≤ 496) where
     seal-of-length : OfLength 512 (seal S key payload pack place)
     unfolding seal
-    seal-of-length = at-tweak .keeps (plainBlock payload pack place) (plain-of-length payload pack place b h)
+    seal-of-length = cipher .keeps (plainBlock payload pack place) (plain-of-length payload pack place b h)
 
     pub deciphered-sealed : decipheredBlock S key pack place (seal S key payload pack place) ≡ plainBlock payload pack place
     unfolding seal decipheredBlock
-    deciphered-sealed = at-tweak .undone (plainBlock payload pack place) (plain-of-length payload pack place b h)
+    deciphered-sealed = cipher .undone (plainBlock payload pack place) (plain-of-length payload pack place b h)
 
     pub answer-sealed : S .isKey key ≡ true → place ≤ 65535 → answerOf S key pack place (seal S key payload pack place) ≡ Done (length payload)
     answer-sealed k l =
@@ -150,13 +162,13 @@ module _ (S : Scheme) (key : List ℕ) (cipher : TweakableCipher 16 512 (S .enci
   unfolding seal decipheredBlock
   sealed-passed C h e =
       let B = S .decipher key (tweak pack place) C in
-      let k = at-tweak .inverse-keeps C h in
+      let k = cipher .inverse-keeps C h in
       let only = passes-only pack place B (k .0) e in
       record {
         payload-bytes = below-take (used B) B (k .1);
         used-limit = only .0;
         payload-length = rw (length-take-le (used B) B (omega (arith, k .0, only .0))) (only .0);
-        seals = ap (λ (P : List ℕ). S .encipher key (tweak pack place) P) (sym (only .1)) ∙ at-tweak .undoes C h;
+        seals = ap (λ (P : List ℕ). S .encipher key (tweak pack place) P) (sym (only .1)) ∙ cipher .undoes C h;
       }
 
   pub only-sealed : (payload C : List ℕ) → OfLength 512 C → opensTo S key payload pack place C ≡ true → C ≡ seal S key payload pack place
@@ -233,6 +245,7 @@ module _ (S : Scheme) (key : List ℕ) (cipher : TweakableCipher 16 512 (S .enci
         eight = eight C b;
       }
 
-  pub answer-means : (C B : List ℕ) (answer : Opened) → Bytes C → answer ≡ answerOf S key pack place C
-      → B ≡ leftBy (numberOf answer) (decipheredBlock S key pack place C) C → Meaning S (numberOf answer) key pack place C B
-  answer-means C B answer b e l = rw (l, e) (meaning C b)
+  -- So an answer by the definition promises what opening promises.
+  pub opens : (C B : List ℕ) (answer : Opened) → Bytes C → answer ≡ answerOf S key pack place C
+      → B ≡ leftBy (numberOf answer) (decipheredBlock S key pack place C) C → Opens S key pack place C answer B
+  opens C B answer b e l = record { answered = e; left = l; meaning = rw (l, e) (meaning C b) }

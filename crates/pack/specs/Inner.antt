@@ -4,10 +4,24 @@ use mathlib.Core.Path.{_≡_}
 use mathlib.Core.Bool.{true}
 use mathlib.Core.List.{List}
 use lib.ListN.{length}
-use Rattle.strings.specs.Cipher.{Scheme}
+use Rattle.strings.specs.Call.{leftBy}
+use Rattle.strings.specs.Cipher.{Cipher, Scheme}
+use Rattle.layout.specs.Layout.{tweak}
+use Rattle.pack.specs.Opening.{numberOf, decipheredBlock, answerOf, Meaning}
+use Rattle.pack.specs.declared.opening.Opened.{Opened}
+
+-- Under this key, and the tweak of this pack and place, the scheme is a cipher of 512 bytes.
+abbrev pub CipherAt : (S : Scheme) (key : List ℕ) (pack place : ℕ) → Type 0
+CipherAt S key pack place = Cipher 512 (S .encipher key (tweak pack place)) (S .decipher key (tweak pack place))
 
 -- What is known of a block that is to be deciphered: numbers 1, 7 and 6 do not apply.
 pub record Openable (S : Scheme) (key : List ℕ) (place : ℕ) (C : List ℕ) : Type 0 where
   pub is-key : S .isKey key ≡ true
   pub block-length : length C ≡ 512
   pub place-limit : place ≤ 65535
+
+-- What opening promises: C was lent, `answer` is returned and B is left.
+pub record Opens (S : Scheme) (key : List ℕ) (pack place : ℕ) (C : List ℕ) (answer : Opened) (B : List ℕ) : Type 0 where
+  pub answered : answer ≡ answerOf S key pack place C
+  pub left : B ≡ leftBy (numberOf answer) (decipheredBlock S key pack place C) C
+  pub meaning : Meaning S (numberOf answer) key pack place C B

@@ -2,23 +2,22 @@
 use Prim.Native.Nat.{ℕ}
 use mathlib.Core.Path.{_≡_}
 use mathlib.Core.Bool.{true}
-use mathlib.Core.List.{List}
+use mathlib.Core.List.{List, [], _∷_}
 use lib.ListN.{length, take}
 use Rattle.strings.specs.Bytes.{Bytes, OfLength}
 use Rattle.strings.specs.Cipher.{TweakableCipher, Scheme}
-use Rattle.hch.specs.Hch.{hch}
 use Rattle.layout.specs.Layout.{plainBlock}
 use Rattle.pack.specs.Sealing.{seal, WithinLimits}
-use Rattle.pack.specs.Opening.{numberOf, decipheredBlock, answerOf, opensTo, OneBlock, Eight}
-use Rattle.pack.specs.declared.opening.Opened.the-variants.{Done}
+use Rattle.pack.specs.Opening.{numberOf, valuesOf, decipheredBlock, answerOf, opensTo, OneBlock, Eight}
 
 -- Of sealing and opening by the scheme S under a key. The pack number and the place are any numbers, cut to 64 and 32 bits where they stand in a block.
 pub record Pack (S : Scheme) (key : List ℕ) : Type 0 where
-  -- Opening what was sealed answers the payload's length and leaves its plain block, which begins with the payload.
+  -- Opening what was sealed is not refused, returns the payload's length and leaves its plain block, which begins with the payload.
   pub open-sealed : (payload : List ℕ) (pack place : ℕ) → WithinLimits payload place
       → let C = seal S key payload pack place in
+      let answer = answerOf S key pack place C in
       let B = plainBlock payload pack place in
-      (answerOf S key pack place C ≡ Done (length payload)) × (decipheredBlock S key pack place C ≡ B) × (take (length payload) B ≡ payload)
+      (numberOf answer ≡ 0) × (valuesOf answer ≡ length payload ∷ []) × (decipheredBlock S key pack place C ≡ B) × (take (length payload) B ≡ payload)
   -- A block that opens to a payload, pack and place is the one that sealing writes.
   pub only-sealed : (payload : List ℕ) (pack place : ℕ) (C : List ℕ) → OfLength 512 C → opensTo S key payload pack place C ≡ true
       → C ≡ seal S key payload pack place
@@ -30,7 +29,3 @@ pub record Pack (S : Scheme) (key : List ℕ) : Type 0 where
 pub record Theorems : Type 0 where
   -- For every scheme that is, under this key, a tweakable cipher of 512 bytes.
   pub any-cipher : (S : Scheme) (key : List ℕ) → S .isKey key ≡ true → TweakableCipher 16 512 (S .encipher key) (S .decipher key) → Pack S key
-  -- HCH under every key is one.
-  pub hch-tweakable : (key : List ℕ) → TweakableCipher 16 512 (hch .encipher key) (hch .decipher key)
-  -- So this holds for HCH with AES: the second half of demand 3.
-  pub hch-pack : (key : List ℕ) → hch .isKey key ≡ true → Pack hch key

@@ -5,7 +5,7 @@ ghost use lib.ListN.{take};
 ghost use Rattle.strings.specs.Call.{looksAt, leftBy};
 ghost use Rattle.hch.specs.Hch.{hch as scheme};
 ghost use Rattle.pack.specs.Opening.{numberOf, decipheredBlock, tests, answerOf, Meaning};
-ghost use Rattle.pack.specs.Inner.{Openable};
+ghost use Rattle.pack.specs.Inner.{Openable, Opens};
 use crate::cipher;
 use layout::Verdict;
 use strings::refusal::Answer;
@@ -43,8 +43,7 @@ fn judge(key: &[u8], place: u32, block: &[u8]) -> Answer
 // Opens a block that the first tests pass. What fails its check is enciphered again, which gives the lent bytes back.
 fn open_block(key: &[u8], pack: u64, place: u32, block: &mut [u8]) -> Opened
     requires { ⌜ Openable scheme (now key) place (now block) ⌝ }
-    ensures { λ r. ⌜ r ≡ answerOf scheme (now (key .entry)) pack place (now (block .entry)) ⌝ }
-    ensures { λ r. ⌜ now (block .exit) ≡ leftBy (numberOf r) (decipheredBlock scheme (now (key .entry)) pack place (now (block .entry))) (now (block .entry)) ⌝ }
+    ensures { λ r. ⌜ Opens scheme (now (key .entry)) pack place (now (block .entry)) r (now (block .exit)) ⌝ }
 {
     cipher::decipher(key, pack, place, block);
     let verdict = layout::read(pack, place, block);

@@ -1,8 +1,8 @@
 // Sealing a payload for a pack and a place.
 ghost use mathlib.Core.Path.{_≡_};
-ghost use Rattle.strings.specs.Call.{numberOf, leftBy};
+ghost use Rattle.strings.specs.Call.{numberOf, looksAt, leftBy};
 ghost use Rattle.hch.specs.Hch.{hch as scheme};
-ghost use Rattle.pack.specs.Sealing.{seal as sealedBy, answerOf};
+ghost use Rattle.pack.specs.Sealing.{seal as sealedBy, tests, answerOf};
 ghost use Rattle.pack.specs.Opening.{OneBlock};
 use crate::cipher;
 use strings::refusal::Answer;
@@ -10,7 +10,7 @@ use strings::refusal::Refusal;
 
 // What sealing looks at, in 01's order.
 fn judge(key: &[u8], payload: &[u8], place: u32, block: &[u8]) -> Answer
-    ensures { λ r. ⌜ r ≡ answerOf scheme (now (key .entry)) (now (payload .entry)) place (now (block .entry)) ⌝ }
+    ensures { λ r. ⌜ r ≡ looksAt (tests scheme (now (key .entry)) (now (payload .entry)) place (now (block .entry))) ⌝ }
 {
     let valid = hch::is_key(key);
     Answer::Done

@@ -14,8 +14,8 @@ use Rattle.strings.specs.declared.refusal.Answer.the-variants.{Done, Ref
 use Rattle.strings.specs.Call.{refusalNumber, numberOf, Tests, looksAt, leftBy}
 use Rattle.strings.specs.Inner.{refuseIf, inTurn}
 
--- A refusal's number is not that of a call that was done, and has at most two digits.
-pub refusal-range : (why : Refusal) → (0 < refusalNumber why) × (refusalNumber why < 100)
+-- A refusal's number is not that of a call that was done, nor 9, which is the program's.
+pub refusal-range : (why : Refusal) → (0 < refusalNumber why) × (refusalNumber why < 9)
 refusal-range KeyLength = (omega arith, omega arith)
 refusal-range TweakLength = (omega arith, omega arith)
 refusal-range TooShort = (omega arith, omega arith)
@@ -28,9 +28,10 @@ refusal-range CheckFailed = (omega arith, omega arith)
 refusal-some : (why : Refusal) → refusalNumber why ≡ 0 → ⊥
 refusal-some why e = omega (arith, refusal-range why .0, e)
 
+-- An answer's number has at most two digits.
 pub number-range : (a : Answer) → numberOf a < 100
 number-range Done = omega arith
-number-range (Refused why) = refusal-range why .1
+number-range (Refused why) = omega (arith, refusal-range why .1)
 
 -- ---- tests one by one
 

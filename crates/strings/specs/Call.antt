@@ -23,6 +23,11 @@ abbrev pub numberOf : Answer → ℕ
 numberOf Done = 0
 numberOf (Refused why) = refusalNumber why
 
+-- And it returns nothing beside its number, as a refused call does: 01, "returns its number alone".
+abbrev pub valuesOf : Answer → List ℕ
+valuesOf Done = []
+valuesOf (Refused why) = []
+
 -- What a call looks at, in its order: conditions, each with the refusal that it is answered with.
 abbrev pub Tests : Type 0
 Tests = List (Bool × Refusal)

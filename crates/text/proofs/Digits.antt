@@ -61,7 +61,7 @@ value-digit n h =
     ⊎-elim (λ l. simp (lt-ltb n 10 l, le-leb (48 + n) 57 (omega arith)) (omega arith))
     (λ l. simp (le-ltb n 10 l, lt-leb (87 + n) 57 (omega arith)) (omega arith)) (test n 10 (ltb n 10) refl)
 
-digit-is : (n : ℕ) → n < 16 → isDigit (digit n) ≡ true
+pub digit-is : (n : ℕ) → n < 16 → isDigit (digit n) ≡ true
 unfolding digit
 digit-is n h =
     ⊎-elim (λ l. simp (lt-ltb n 10 l) (decimal (48 + n) (omega arith) (omega arith)))

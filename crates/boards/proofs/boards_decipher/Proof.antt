@@ -15,10 +15,8 @@ same-length c = search needs
 
 returns : tie.Need-returns
 returns c =
-    let e = c .before .before .before in (
-      rw (c .number .ensures, e .decipher .ensures .0),
-      (rw (c .number .ensures) (e .decipher .ensures .1 .0), rw (c .number .ensures) (e .decipher .ensures .1 .1)),
-    )
+    let e = c .before .before .before .decipher .ensures in
+    (rw (c .number .ensures, e .0), (rw (c .number .ensures) (e .1 .0), (rw (c .number .ensures) (e .1 .1 .0), rw (c .number .ensures) (e .1 .1 .1))))
 
 pub boards-decipher-spec : {M : Type 1} → statement M
 boards-decipher-spec =

@@ -15,8 +15,8 @@ same-length c = search needs
 
 returns : tie.Need-returns
 returns c =
-    let e = c .before .before .before in
-    (rw (c .number .ensures, e .encipher .ensures .0), rw (c .number .ensures) (e .encipher .ensures .1))
+    let e = c .before .before .before .encipher .ensures in
+    (rw (c .number .ensures, e .0), (rw (c .number .ensures) (e .1 .0), rw (c .number .ensures) (e .1 .1)))
 
 pub boards-encipher-spec : {M : Type 1} → statement M
 boards-encipher-spec =

@@ -15,10 +15,8 @@ same-length c = search needs
 
 returns : tie.Need-returns
 returns c =
-    let e = c .before .before .before in (
-      rw (c .number .ensures, e .open .ensures .0),
-      (rw (c .number .ensures) (e .open .ensures .1 .0), rw (c .number .ensures) (e .open .ensures .1 .1)),
-    )
+    let e = c .before .before .before .open .ensures in
+    (rw (c .number .ensures, e .0), (rw (c .number .ensures) (e .1 .0), rw (c .number .ensures) (e .1 .1)))
 
 pub boards-open-spec : {M : Type 1} → statement M
 boards-open-spec = tie.close (tie.spec open-requires number-requires same-length returns)

@@ -1,14 +1,16 @@
 -- The tests, and the work where they are passed: the key expanded and the tweak read as a block.
 -- Assumes nothing.
-use mathlib.Core.Path.{sym, ap, _∙_}
+use mathlib.Core.Path.{_≡_, sym, ap, _∙_}
 use borrow.Author.Needs.{needs}
 use denote.Ref.{now}
+use lib.ListN.{length}
 use Rattle.blocks.specs.Aes.{aes}
 use Rattle.blocks.proofs.Blocks.{block-whole}
 use Rattle.hch.specs.Hch.{enciphered}
 use Rattle.strings.specs.Call.{numberOf}
-use Rattle.strings.proofs.Refusals.{refused-leaves}
+use Rattle.strings.proofs.Refusals.{refused-some, refused-leaves}
 use Rattle.hch.proofs.Call.{admitted}
+use Rattle.hch.proofs.Theorems.{hch-cipher}
 use Rattle.hch.proofs.encipher.Statement.{statement}
 use Rattle.hch.proofs.encipher.Tie as tie
 
@@ -43,12 +45,14 @@ returns c =
     let new = read .before .before in
     let told = new .before in
     let judged = told .before .before in
-    let args = judged .before .before .before .before .before .args in
+    let lent = judged .before .before in
+    let args = lent .before .before .before .args in
     let done = told .enum-told .given .1 in
-    let a = admitted (now (args .key)) (now (args .tweak)) (now (args .message)) (ap numberOf (sym (judged .judge .ensures) ∙ done)) in (
-      judged .judge .ensures,
-      rw (done, b .encipher-message .ensures, new .new .ensures .1, a .is-key, read .read .ensures, block-whole (now (args .tweak)) (a .tweak-length)),
-    )
+    let a = admitted (now (args .key)) (now (args .tweak)) (now (args .message)) (ap numberOf (sym (judged .judge .ensures) ∙ done)) in
+    let left : b .encipher-message .last .1 .1 .0 ≡ enciphered (now (args .key)) (now (args .tweak)) (now (args .message)) =
+    rw (b .encipher-message .ensures, new .new .ensures .1, a .is-key, read .read .ensures, block-whole (now (args .tweak)) (a .tweak-length)) in
+    let cipher = hch-cipher (now (args .key)) (now (args .tweak)) (length (now (args .message))) (a .tweak-length, λ i. lent .before .shared-slice-known2 .given i .fits) (a .at-least) in
+    (judged .judge .ensures, (rw (done, left), λ e. cipher))
 
 enum-told-2 : tie.Need-enum-told-2
 enum-told-2 c = search needs
@@ -57,7 +61,9 @@ same-length-2 : tie.Need-same-length-2
 same-length-2 c = search needs
 
 returns-2 : tie.Need-returns-2
-returns-2 c = (c .before .before .judge .ensures, refused-leaves (c .enum-told2 .given .1) _ _)
+returns-2 c =
+    let why = c .enum-told2 .given .1 in
+    (c .before .before .judge .ensures, (refused-leaves why _ _, λ e. absurd (refused-some why e)))
 
 pub encipher-spec : {M : Type 1} → statement M
 encipher-spec =

@@ -39,10 +39,10 @@ returns-3 c =
       checked .put-check .ensures,
       copied .copy .ensures .1,
       copied-front (now (a .payload)) (now (a .block)) (omega (arith, d1 .if1 .left, d2 .if2 .left)),
-      plain-written (now (a .payload)) (now (a .block)) (a .pack) (a .place) (d1 .if1 .left) (d2 .if2 .left),
       le-leb _ 496 (d1 .if1 .left),
       eq-eqb _ 512 (d2 .if2 .left),
     )
+    (plain-written (now (a .payload)) (now (a .block)) (a .pack) (a .place) (d1 .if1 .left) (d2 .if2 .left))
 
 pub write-spec : {M : Type 1} → statement M
 write-spec =

@@ -34,7 +34,7 @@ returns c =
     let chosen = called .before .before in
     let args = chosen .before .before .before .before .args in
     rw (eq-eqb (args .command) 69 (chosen .if1 .taken))
-    (written-as (reply-called (called .encipher .result) _ (numbered .number .result) _ (enciphered (now (args .key)) (now (args .tweak)) (now (args .message))) (now (args .message)) (called .encipher .ensures .0) (numbered .number .ensures) (called .encipher .ensures .1))
+    (written-as (reply-called (called .encipher .result) _ (numbered .number .result) _ (enciphered (now (args .key)) (now (args .tweak)) (now (args .message))) (now (args .message)) (called .encipher .ensures .0) (numbered .number .ensures) (called .encipher .ensures .1 .0))
     (c .reply .ensures))
 
 decipher-requires : tie.Need-decipher-requires

@@ -1,8 +1,8 @@
--- The lengths are those that HCH admits, so it does its work.
+-- The lengths are those that HCH admits, so it does its work, and its contract says that it is a cipher.
 -- Assumes nothing.
 use borrow.Author.Needs.{needs}
 use denote.Ref.{now}
-use Rattle.pack.proofs.Theorems.{hch-done}
+use Rattle.pack.proofs.Admits.{by-contract}
 use Rattle.pack.proofs.cipher.encipher.Statement.{statement}
 use Rattle.pack.proofs.cipher.encipher.Tie as tie
 
@@ -12,8 +12,8 @@ returns c =
     let t = work .before .before .before in
     let start = t .before .before .before in
     let a = start .args in
-    hch-done (now (a .key)) (a .pack) (a .place) (now (a .block)) _ _ (start .pre .0) (start .pre .1)
-    (rw (t .tweak .ensures) at (work .encipher .ensures .0)) (rw (t .tweak .ensures) at (work .encipher .ensures .1))
+    by-contract (now (a .key)) (a .pack) (a .place) (now (a .block)) (start .pre .0) (start .pre .1) _ _
+    (rw (t .tweak .ensures) at (work .encipher .ensures .0)) (rw (t .tweak .ensures) at (work .encipher .ensures .1 .0)) (rw (t .tweak .ensures) at (work .encipher .ensures .1 .1))
 
 pub encipher-spec : {M : Type 1} → statement M
 encipher-spec = tie.close (tie.spec (λ c κs. search needs) (λ c. search needs) (λ c κs. search needs) (λ c. search needs) returns)

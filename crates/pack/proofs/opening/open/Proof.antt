@@ -3,12 +3,8 @@
 use mathlib.Core.Path.{sym, _∙_}
 use borrow.Author.Needs.{needs}
 use denote.Ref.{now}
-use Rattle.strings.proofs.Refusals.{refusal-leaves}
 use Rattle.hch.specs.Hch.{hch}
-use Rattle.pack.specs.Opening.{decipheredBlock}
-use Rattle.pack.specs.declared.opening.Opened.the-variants.{Refused}
 use Rattle.pack.proofs.OneBlock.{openable, refused-first}
-use Rattle.pack.proofs.Theorems.{hch-meaning}
 use Rattle.pack.proofs.opening.open.Statement.{statement}
 use Rattle.pack.proofs.opening.open.Tie as tie
 
@@ -25,13 +21,9 @@ returns : tie.Need-returns
 returns c =
     let refused = c .before .answer .given in
     let judged = c .before .before .before in
-    let known = judged .before .before in
-    let a = known .before .before .args in
-    let key = now (a .key) in
-    let C = now (a .block) in
-    let answered = refused-first hch key (a .pack) (a .place) C (sym (judged .judge .ensures (a .pack)) ∙ refused .1) in
-    let left = refusal-leaves (refused .0 .0) (decipheredBlock hch key (a .pack) (a .place) C) C in
-    (answered, (left, hch-meaning key (a .pack) (a .place) C C (Refused _) (λ i. known .slice-known .given i .fits) answered left))
+    let a = judged .before .before .before .before .args in
+    let first = refused-first hch (now (a .key)) (a .pack) (a .place) (now (a .block)) (sym (judged .judge .ensures (a .pack)) ∙ refused .1) in
+    (first .answered, (first .left, first .meaning))
 
 enum-told : tie.Need-enum-told
 enum-told c = search needs
@@ -47,11 +39,8 @@ same-length-2 c = search needs
 
 returns-2 : tie.Need-returns-2
 returns-2 c =
-    let opened = c .before .before in
-    let known = opened .before .before .before .before .before .before in
-    let a = known .before .before .args in
-    let e = opened .open-block .ensures in
-    (e .0, (e .1, hch-meaning (now (a .key)) (a .pack) (a .place) (now (a .block)) _ _ (λ i. known .slice-known .given i .fits) (e .0) (e .1)))
+    let opened = c .before .before .open-block .ensures in
+    (opened .answered, (opened .left, opened .meaning))
 
 pub open-spec : {M : Type 1} → statement M
 open-spec =

@@ -7,10 +7,9 @@ use denote.Ref.{now}
 use Rattle.strings.specs.declared.refusal.Refusal.the-variants.{CheckFailed}
 use Rattle.hch.specs.Hch.{hch}
 use Rattle.layout.proofs.Check.{read-passed, read-failed}
-use Rattle.pack.specs.Opening.{decipheredBlock, answerOf}
+use Rattle.pack.specs.Opening.{decipheredBlock}
 use Rattle.pack.specs.declared.opening.Opened.the-variants.{Done, Refused}
-use Rattle.pack.proofs.OneBlock.{by-check, given-back}
-use Rattle.pack.proofs.Theorems.{hch-tweakable}
+use Rattle.pack.proofs.OneBlock.{by-check, given-back, opens}
 use Rattle.pack.proofs.opening.open_block.Statement.{statement}
 use Rattle.pack.proofs.opening.open_block.Tie as tie
 
@@ -45,12 +44,13 @@ returns c =
     let key = now (a .key) in
     let C = now (a .block) in
     let B = decipheredBlock hch key (a .pack) (a .place) C in
-    let plain : d .decipher .last .1 .1 .1 .0 ≡ B = d .decipher .ensures in
+    let plain : d .decipher .last .1 .1 .1 .0 ≡ B = d .decipher .ensures .0 in
+    let promised = opens hch key (a .pack) (a .place) (d .decipher .ensures .1) C in
     let failed = read-failed (a .pack) (a .place) B (sym (told .enum-told .given .1) ∙ rw plain at (read .read .ensures)) in
     let left : again .encipher .last .1 .1 .1 .0 ≡ C =
-    rw (again .encipher .ensures, plain)
-    (given-back hch key (hch-tweakable key) (a .pack) (a .place) C (start .pre .block-length, λ i. known .slice-known .given i .fits)) in
-    (sym (by-check hch key (a .pack) (a .place) C (start .pre) false failed), left)
+    rw (again .encipher .ensures .0, plain)
+    (given-back hch key (a .pack) (a .place) (d .decipher .ensures .1) C (start .pre .block-length, λ i. known .slice-known .given i .fits)) in
+    promised _ (Refused CheckFailed) (λ i. known .slice-known .given i .fits) (sym (by-check hch key (a .pack) (a .place) C (start .pre) false failed)) left
 
 same-length-2 : tie.Need-same-length-2
 same-length-2 c = search needs
@@ -67,9 +67,10 @@ returns-2 c =
     let key = now (a .key) in
     let C = now (a .block) in
     let B = decipheredBlock hch key (a .pack) (a .place) C in
-    let plain : d .decipher .last .1 .1 .1 .0 ≡ B = d .decipher .ensures in
+    let plain : d .decipher .last .1 .1 .1 .0 ≡ B = d .decipher .ensures .0 in
+    let promised = opens hch key (a .pack) (a .place) (d .decipher .ensures .1) C in
     let passed = read-passed (a .pack) (a .place) B (verdict .0 .0) (sym (verdict .1) ∙ rw plain at (read .read .ensures)) in
-    (rw (passed .1) (sym (by-check hch key (a .pack) (a .place) C (start .pre) true (passed .0))), plain)
+    promised _ (Done _) (λ i. known .slice-known .given i .fits) (rw (passed .1) (sym (by-check hch key (a .pack) (a .place) C (start .pre) true (passed .0)))) plain
 
 pub open-block-spec : {M : Type 1} → statement M
 open-block-spec =

@@ -12,8 +12,7 @@ use Rattle.strings.proofs.Refusals.{refused-some, refused-leaves}
 use Rattle.hch.specs.Hch.{hch}
 use Rattle.layout.proofs.Check.{both-fit, length-plain}
 use Rattle.pack.specs.Sealing.{seal as sealedBy, WithinLimits, answerOf}
-use Rattle.pack.proofs.OneBlock.{Sealable, sealable}
-use Rattle.pack.proofs.Theorems.{hch-pack}
+use Rattle.pack.proofs.OneBlock.{Sealable, sealable, one-block}
 use Rattle.pack.proofs.sealing.seal.Statement.{statement}
 use Rattle.pack.proofs.sealing.seal.Tie as tie
 
@@ -63,8 +62,8 @@ returns c =
       place-limit = s .place-limit;
     } in
     let left : work .encipher .last .1 .1 .1 .0 ≡ sealedBy hch (now (a .key)) payload (a .pack) (a .place) =
-    rw (work .encipher .ensures, written .write .ensures, both-fit payload (now (a .block)) (s .payload-length) (s .block-length)) in
-    (judged .judge .ensures, (rw (done, left), λ e. rw left (hch-pack (now (a .key)) (s .is-key) .one-block payload (a .pack) (a .place) limits)))
+    rw (work .encipher .ensures .0, written .write .ensures, both-fit payload (now (a .block)) (s .payload-length) (s .block-length)) in
+    (judged .judge .ensures, (rw (done, left), λ e. rw left (one-block hch (now (a .key)) (a .pack) (a .place) (work .encipher .ensures .1) payload (s .is-key) limits)))
 
 same-length-2 : tie.Need-same-length-2
 same-length-2 c = search needs

@@ -5,10 +5,10 @@ use mathlib.Core.List.{List, [], _∷_, _++_}
 use lib.ListN.{length, drop, replicate}
 use Rattle.strings.specs.Xor.{_⊕_}
 use Rattle.strings.specs.Bytes.{number}
-use Rattle.blocks.specs.Blocks.{firstBlock, blocks, IsBlock}
+use Rattle.blocks.specs.Blocks.{blocks, IsBlock}
 use Rattle.blocks.specs.BlockField.{timesX, _·_, powerSum}
 use Rattle.blocks.specs.Aes.{_•_, sBox}
-use Rattle.hch.specs.Hch.{bin, H}
+use Rattle.hch.specs.Hch.{lengthBlock, behindFirst, H}
 use Rattle.layout.specs.Layout.{plainBlock, tweak}
 
 pub record Examples : Type 0 where
@@ -28,10 +28,10 @@ pub record Examples : Type 0 where
   pub p7 : 0x57 • 2 ≡ 0xae
   -- The S-box sends 00 to 63 and 53 to ed.
   pub p8 : (sBox 0x00 ≡ 0x63) × (sBox 0x53 ≡ 0xed)
-  -- bin for 20 bytes is a0; for 512 bytes 1000; for 4,096 bytes 8000. A byte is 8 bits.
-  pub p9 : (bin (8 * 20) ≡ 0xa0) × (bin (8 * 512) ≡ 0x1000) × (bin (8 * 4096) ≡ 0x8000)
-  -- 20 bytes make m = 2, the last block being 4 bytes and 12 zeros.
-  pub p10 : (P : List ℕ) → length P ≡ 20 → blocks P ≡ firstBlock P ∷ number (drop 16 P ++ replicate 12 0) ∷ []
+  -- bin for 20 bytes is a0; for 512 bytes 1000; for 4,096 bytes 8000.
+  pub p9 : (lengthBlock 20 ≡ 0xa0) × (lengthBlock 512 ≡ 0x1000) × (lengthBlock 4096 ≡ 0x8000)
+  -- 20 bytes make m = 2, the last block being 4 bytes and 12 zeros: behind the first block stand 4 bytes, and they make one block.
+  pub p10 : (P : List ℕ) → length P ≡ 20 → (length (behindFirst P) ≡ 4) × (blocks (behindFirst P) ≡ number (behindFirst P ++ replicate 12 0) ∷ [])
   -- H with R = 0 is Q xor A_1.
   pub p11 : (Q A₁ : ℕ) (A₂…Aₘ : List ℕ) → H powerSum 0 Q A₁ A₂…Aₘ ≡ Q ⊕ A₁
   -- Pack 1, place 258 has the tweak 00 00 00 00 00 00 00 01 00 00 00 00 00 00 01 02.

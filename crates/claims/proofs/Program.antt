@@ -9,7 +9,7 @@ use Rattle.blocks.specs.Aes.{isKey}
 use Rattle.hch.specs.Call.{tests}
 use Rattle.line.specs.Line.{commanded, requested, requestOf, decimal, refusal, reply, replyTo, answer}
 use Rattle.line.specs.Input.{linesOf, answers}
-use Rattle.examples.specs.Program.{Program}
+use Rattle.claims.specs.Program.{Program}
 
 pub program : Program
 unfolding flatMap digit isDigit value hex allDigits isHex unhex splitFrom isKey looksAt tests commanded requested requestOf decimal refusal reply replyTo answer linesOf answers

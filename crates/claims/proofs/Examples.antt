@@ -3,7 +3,7 @@
 use Rattle.blocks.proofs.Examples as field
 use Rattle.hch.proofs.Examples as scheme
 use Rattle.layout.proofs.Examples as layout
-use Rattle.examples.specs.Examples.{Examples}
+use Rattle.claims.specs.Examples.{Examples}
 
 pub examples : Examples
 examples = record {

@@ -1,0 +1,6 @@
+pub mod Number9
+pub mod Demand1
+pub mod Demand3
+pub mod Examples
+pub mod Fips197
+pub mod Program

@@ -1,0 +1,60 @@
+-- Number 9 is answered to no line that is understood: the digits of a result begin with no letter of `no`, and the library's numbers are below 9.
+-- Assumes nothing.
+use Prim.Native.Nat.{ℕ, zero, suc, _+_, _/_, _%_, _<_}
+use mathlib.Core.Path.{_≡_, refl, ap}
+use mathlib.Core.Bool.{true, false≢true}
+use mathlib.Core.List.{List, [], _∷_}
+use native.Mathlib.Nat.{mod-lt, mod-eq-of-lt}
+use native.Mathlib.Omega.{arith}
+use borrow.Author.Tests.{lt-ltb}
+use lib.Dec.{lit<}
+use lib.ListN.{getD}
+use Rattle.strings.specs.Bytes.{bytes}
+use Rattle.strings.specs.Call.{numberOf}
+use Rattle.strings.specs.declared.refusal.Answer.{Answer}
+use Rattle.strings.specs.declared.refusal.Answer.the-variants.{Done, Refused}
+use Rattle.strings.proofs.Refusals.{refusal-range}
+use Rattle.hch.specs.Hch.{encipher, decipher, enciphered, deciphered}
+use Rattle.hch.specs.Call.{answerOf}
+use Rattle.text.specs.Hex.{digit, isDigit, hex}
+use Rattle.text.proofs.Digits.{digit-is}
+use Rattle.line.specs.Line.{Request, Encipher, Decipher, Unknown, requestOf, decimal, refusal, reply, replyTo, answer}
+
+-- The first byte that HCH writes is a byte.
+first-enciphered : (key tweak P : List ℕ) → getD (enciphered key tweak P) 0 0 < 256
+unfolding enciphered encipher bytes
+first-enciphered key tweak P = mod-lt _ (lit< tt)
+
+first-deciphered : (key tweak C : List ℕ) → getD (deciphered key tweak C) 0 0 < 256
+unfolding deciphered decipher bytes
+first-deciphered key tweak C = mod-lt _ (lit< tt)
+
+-- A number below 9 is written otherwise than 9.
+below-9 : (n : ℕ) → n < 9 → refusal n ≡ refusal 9 → ⊥
+unfolding refusal decimal
+below-9 n h e =
+    let same : n % 10 ≡ n = mod-eq-of-lt (omega (arith, h)) in
+    let fourth : 48 + n ≡ 57 = rw (lt-ltb n 10 (omega (arith, h)), same, lt-ltb n 10 (omega (arith, h))) at (ap (λ (s : List ℕ). getD s 3 0) e) in
+    omega (arith, h, fourth)
+
+not-9 : (n : ℕ) (work : List ℕ) → n < 9 → getD work 0 0 < 256 → reply n work ≡ refusal 9 → ⊥
+unfolding reply hex isDigit refusal
+not-9 zero [] h b e = omega (arith, ap (λ (s : List ℕ). getD s 0 0) e)
+not-9 zero (c ∷ cs) h b e =
+    let first : digit (c / 16) ≡ 110 = ap (λ (s : List ℕ). getD s 0 0) e in
+    false≢true (rw first at (digit-is (c / 16) (omega (arith, b))))
+not-9 (suc n) work h b e = below-9 (suc n) h e
+
+below : (a : Answer) → numberOf a < 9
+below Done = omega arith
+below (Refused why) = refusal-range why .1
+
+asked : (r : Request) → replyTo r ≡ refusal 9 → r ≡ Unknown
+unfolding replyTo
+asked (Encipher key tweak message) e = absurd (not-9 _ _ (below (answerOf key tweak message)) (first-enciphered key tweak message) e)
+asked (Decipher key tweak message) e = absurd (not-9 _ _ (below (answerOf key tweak message)) (first-deciphered key tweak message) e)
+asked Unknown e = refl
+
+pub line-9-only : (line : List ℕ) → answer line ≡ refusal 9 → requestOf line ≡ Unknown
+unfolding answer
+line-9-only line e = asked (requestOf line) e

@@ -1,0 +1,93 @@
+-- Demand 1, over the definitions that the contracts of the calls cite: each of 01's numbers under its listed condition, in the order of the call, and what
+-- is left. In each call the conditions leave nothing out, so that no number is answered at another time. What number 8 means is in Demand3.antt.
+-- proofs/Demand1.antt has one value of the record.
+use Prim.Native.Nat.{ℕ, _≤_, _<_}
+use mathlib.Core.Path.{_≡_}
+use mathlib.Core.Bool.{true, false}
+use mathlib.Core.List.{List, [], _∷_}
+use lib.ListN.{length}
+use Rattle.strings.specs.Call.{refusalNumber, numberOf, valuesOf, leftBy}
+use Rattle.strings.specs.declared.refusal.Refusal.{Refusal}
+use Rattle.strings.specs.declared.refusal.Answer.the-variants.{Done, Refused}
+use Rattle.layout.specs.Layout.{used, passes}
+use Rattle.hch.specs.Hch.{behindFirst, enciphered, deciphered, hch}
+use Rattle.hch.specs.Call.{answerOf}
+use Rattle.pack.specs.Sealing.{answerOf as answerOfSealing}
+use Rattle.pack.specs.Opening.{numberOf as numberOfOpening, valuesOf as valuesOfOpening, decipheredBlock, answerOf as answerOfOpening}
+use Rattle.line.specs.Line.{Encipher, Decipher, Unknown, requestOf, refusal, reply, answer}
+use Rattle.pack.specs.declared.opening.Opened.the-variants.{Refused as NotOpened}
+
+-- The number of each call; enciphering and deciphering have the same.
+abbrev pub ofHch : (key tweak message : List ℕ) → ℕ
+ofHch key tweak message = numberOf (answerOf key tweak message)
+
+abbrev pub ofSealing : (key payload : List ℕ) (place : ℕ) (block : List ℕ) → ℕ
+ofSealing key payload place block = numberOf (answerOfSealing hch key payload place block)
+
+abbrev pub ofOpening : (key : List ℕ) (pack place : ℕ) (block : List ℕ) → ℕ
+ofOpening key pack place block = numberOfOpening (answerOfOpening hch key pack place block)
+
+pub record Demand1 : Type 0 where
+  -- ---- "HCH looks at 1, 2, 3, 4 in this order": a number does not go by what is looked at after it.
+  -- 1: key not 16 bytes.
+  pub hch-1 : (key tweak message : List ℕ) → (length key ≡ 16 → ⊥) → ofHch key tweak message ≡ 1
+  -- 2: tweak not 16 bytes.
+  pub hch-2 : (key tweak message : List ℕ) → length key ≡ 16 → (length tweak ≡ 16 → ⊥) → ofHch key tweak message ≡ 2
+  -- 3: data under 16 bytes.
+  pub hch-3 : (key tweak message : List ℕ) → length key ≡ 16 → length tweak ≡ 16 → length message < 16 → ofHch key tweak message ≡ 3
+  -- 4: data over 4,096 bytes.
+  pub hch-4 : (key tweak message : List ℕ) → length key ≡ 16 → length tweak ≡ 16 → 4096 < length message → ofHch key tweak message ≡ 4
+  -- Else the work is done: 16 bytes and 4,096 bytes are enciphered.
+  pub hch-done : (key tweak message : List ℕ) → length key ≡ 16 → length tweak ≡ 16 → 16 ≤ length message → length message ≤ 4096
+      → ofHch key tweak message ≡ 0
+  -- 17 bytes has a last block of 1 byte.
+  pub hch-17 : (message : List ℕ) → length message ≡ 17 → length (behindFirst message) ≡ 1
+  -- ---- "Sealing looks at 1, 7, 5, 6".
+  -- 1, as above.
+  pub seal-1 : (key payload : List ℕ) (place : ℕ) (block : List ℕ) → (length key ≡ 16 → ⊥) → ofSealing key payload place block ≡ 1
+  -- 7: lent block not 512 bytes.
+  pub seal-7 : (key payload : List ℕ) (place : ℕ) (block : List ℕ) → length key ≡ 16 → (length block ≡ 512 → ⊥) → ofSealing key payload place block ≡ 7
+  -- 5: payload over 496 bytes.
+  pub seal-5 : (key payload : List ℕ) (place : ℕ) (block : List ℕ) → length key ≡ 16 → length block ≡ 512 → 496 < length payload
+      → ofSealing key payload place block ≡ 5
+  -- 6: place over 65,535.
+  pub seal-6 : (key payload : List ℕ) (place : ℕ) (block : List ℕ) → length key ≡ 16 → length block ≡ 512 → length payload ≤ 496 → 65535 < place
+      → ofSealing key payload place block ≡ 6
+  -- Else the work is done: payloads of 0 and 496 bytes are sealed, and place 65,535 is.
+  pub seal-done : (key payload : List ℕ) (place : ℕ) (block : List ℕ) → length key ≡ 16 → length block ≡ 512 → length payload ≤ 496 → place ≤ 65535
+      → ofSealing key payload place block ≡ 0
+  -- ---- "Opening looks at 1, 7, 6, 8".
+  -- 1, as above.
+  pub open-1 : (key : List ℕ) (pack place : ℕ) (block : List ℕ) → (length key ≡ 16 → ⊥) → ofOpening key pack place block ≡ 1
+  -- 7, as above.
+  pub open-7 : (key : List ℕ) (pack place : ℕ) (block : List ℕ) → length key ≡ 16 → (length block ≡ 512 → ⊥) → ofOpening key pack place block ≡ 7
+  -- 6, as above.
+  pub open-6 : (key : List ℕ) (pack place : ℕ) (block : List ℕ) → length key ≡ 16 → length block ≡ 512 → 65535 < place → ofOpening key pack place block ≡ 6
+  -- 8: opened block fails its check.
+  pub open-8 : (key : List ℕ) (pack place : ℕ) (block : List ℕ) → length key ≡ 16 → length block ≡ 512 → place ≤ 65535
+      → passes pack place (decipheredBlock hch key pack place block) ≡ false → ofOpening key pack place block ≡ 8
+  -- Else the work is done, and u is returned beside the number.
+  pub open-done : (key : List ℕ) (pack place : ℕ) (block : List ℕ) → length key ≡ 16 → length block ≡ 512 → place ≤ 65535
+      → passes pack place (decipheredBlock hch key pack place block) ≡ true
+      → (ofOpening key pack place block ≡ 0) × (valuesOfOpening (answerOfOpening hch key pack place block) ≡ used (decipheredBlock hch key pack place block) ∷ [])
+  -- ---- "Numbers 1 to 8 come from the library and 9 from the program".
+  -- 9: line not understood.
+  pub line-9 : (line : List ℕ) → requestOf line ≡ Unknown → answer line ≡ refusal 9
+  -- No other line is answered so.
+  pub line-9-only : (line : List ℕ) → answer line ≡ refusal 9 → requestOf line ≡ Unknown
+  -- A line that is understood is answered as HCH's call answers.
+  pub line-enciphered : (line key tweak message : List ℕ) → requestOf line ≡ Encipher key tweak message
+      → answer line ≡ reply (ofHch key tweak message) (enciphered key tweak message)
+  pub line-deciphered : (line key tweak message : List ℕ) → requestOf line ≡ Decipher key tweak message
+      → answer line ≡ reply (ofHch key tweak message) (deciphered key tweak message)
+  -- The library's numbers are 1 to 8.
+  pub library-1-to-8 : (why : Refusal) → (0 < refusalNumber why) × (refusalNumber why < 9)
+  -- ---- "Each leaves the lent bytes unchanged and returns its number alone".
+  -- The lent bytes are left by every number but 0.
+  pub refused-left : (number : ℕ) (work lent : List ℕ) → 0 < number → leftBy number work lent ≡ lent
+  -- A refusal is its number, and no value stands beside it, in HCH's calls and sealing and in opening.
+  pub refused-alone : (why : Refusal) → (numberOf (Refused why) ≡ refusalNumber why) × (valuesOf (Refused why) ≡ [])
+  pub not-opened-alone : (why : Refusal) → (numberOfOpening (NotOpened why) ≡ refusalNumber why) × (valuesOfOpening (NotOpened why) ≡ [])
+  -- A call that was done leaves its work. HCH's calls and sealing then return nothing beside 0.
+  pub done-left : (work lent : List ℕ) → leftBy 0 work lent ≡ work
+  pub done-alone : (numberOf Done ≡ 0) × (valuesOf Done ≡ [])

@@ -1,3 +1,0 @@
-pub mod Fips197
-pub mod Examples
-pub mod Program
