@@ -26,7 +26,7 @@
  *     other.
  *   - No call can tell whether a pointer, a length or an overlap is wrong in this sense: nothing is promised then.
  *   - Nothing is kept between calls, no memory is allocated, and no system call is made. As compiled today, a call
- *     takes some 2.5 KiB of stack. Any number of threads may call at once, as long as none is lent bytes that another
+ *     takes some 5.5 KiB of stack. Any number of threads may call at once, as long as none is lent bytes that another
  *     one's call may write.
  *   - The bytes may stand at any address: nothing has to be aligned.
  *
@@ -42,7 +42,7 @@
  * makes the archive, and the C library's memcpy and memset; that your pointers and lengths are right; and that HCH is
  * hard to break.
  *
- * Timing. Nothing is promised of the time that a call takes, and no proof speaks of it. AES looks up a table at
+ * Timing. Nothing is promised of the time that a call takes, and no proof speaks of it. AES looks up tables at
  * places that depend on the key and the data: whoever shares a processor's cache with the program may learn something
  * of both. The products in HCH use no table, and no branch that depends on the data was seen in their compiled code.
  * HCH's own tests, in its source, are on lengths alone. Opening, in its source, looks at every byte of the check where
@@ -56,9 +56,9 @@
 #include <stddef.h>
 #include <stdint.h>
 
-/* The version of the library: 0.8. */
+/* The version of the library: 0.9. */
 #define BOARDS_VERSION_MAJOR 0
-#define BOARDS_VERSION_MINOR 8
+#define BOARDS_VERSION_MINOR 9
 
 /* The limits, in bytes but for the last. */
 #define BOARDS_KEY_SIZE 16

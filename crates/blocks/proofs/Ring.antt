@@ -18,13 +18,13 @@ use Rattle.strings.proofs.Xor.{xor-laws, xor-comm, xor-shr, xor-mod, xor-parts,
 abbrev pub Additive : (ℕ → ℕ) → Type 0
 Additive f = (a b : ℕ) → f (a ⊕ b) ≡ f a ⊕ f b
 
-additive-zero : (f : ℕ → ℕ) → Additive f → f 0 ≡ 0
+pub additive-zero : (f : ℕ → ℕ) → Additive f → f 0 ≡ 0
 additive-zero f h = ap f (sym (xor-self 0)) ∙ h 0 0 ∙ xor-self (f 0)
 
 double : (a : ℕ) → 2 * a ≡ a * 2 + 0
 double a = omega arith
 
-double-add : Additive (λ a. 2 * a)
+pub double-add : Additive (λ a. 2 * a)
 unfolding _⊕_
 double-add a b = simp double (sym (xor-parts 1 a b 0 0 (zero-lt-suc 1) (zero-lt-suc 1)))
 
@@ -34,7 +34,7 @@ digits a =
     xor-comm (a % 2) (2 * (a / 2)) ∙ ap (λ (x : ℕ). x ⊕ a % 2) (mul-comm 2 (a / 2))
     ∙ xor-disjoint 1 (a / 2) (a % 2) (mod-lt a (zero-lt-suc 1)) ∙ omega arith
 
-pow-double : (n : ℕ) → 2 * 2 ^ n ≡ 2 ^ suc n
+pub pow-double : (n : ℕ) → 2 * 2 ^ n ≡ 2 ^ suc n
 pow-double n = mul-comm 2 (2 ^ n) ∙ sym (pow-suc 2 n)
 
 pow-even : (i : ℕ) → 2 ^ suc i % 2 ≡ 0
@@ -111,11 +111,11 @@ module _ (k p : ℕ) where
 
   -- ---- n times x
 
-  xs : ℕ → ℕ → ℕ
+  unfoldable pub xs : ℕ → ℕ → ℕ
   xs zero a = a
   xs (suc n) a = timesX k p (xs n a)
 
-  xs-add : (n : ℕ) → Additive (xs n)
+  pub xs-add : (n : ℕ) → Additive (xs n)
   unfolding xs
   xs-add zero a b = refl
   xs-add (suc n) a b = rw (xs-add n a b) (x-add (xs n a) (xs n b))
@@ -130,13 +130,13 @@ module _ (k p : ℕ) where
   xs-swap m zero a = refl
   xs-swap m (suc n) a = xs-x m (xs n a) ∙ ap (timesX k p) (xs-swap m n a)
 
-  xs-one : (n : ℕ) → n < k → xs n 1 ≡ 2 ^ n
+  pub xs-one : (n : ℕ) → n < k → xs n 1 ≡ 2 ^ n
   unfolding xs
   xs-one zero h = refl
   xs-one (suc n) h =
       rw (xs-one n (le-of-lt h)) (x-small (2 ^ n) (rw (pow-double n) (pow-lt h)) ∙ pow-double n)
 
-  xs-top : 0 < k → xs k 1 ≡ p
+  pub xs-top : 0 < k → xs k 1 ≡ p
   unfolding xs
   xs-top h =
       let e : suc (pred k) ≡ k = suc-pred-eq-of-pos h in
@@ -144,12 +144,12 @@ module _ (k p : ℕ) where
 
   -- ---- the product is additive on both sides, keeps blocks, and times x passes through it
 
-  prod-add-left : (n c : ℕ) → Additive (λ a. productN k p n a c)
+  pub prod-add-left : (n c : ℕ) → Additive (λ a. productN k p n a c)
   unfolding productN
   prod-add-left zero c a b = sym (xor-zero 0)
   prod-add-left (suc n) c a b = rw (prod-add-left n (c / 2) a b) (simp (times01-add, x-add, xor-laws))
 
-  prod-add-right : (n a : ℕ) → Additive (productN k p n a)
+  pub prod-add-right : (n a : ℕ) → Additive (productN k p n a)
   unfolding productN
   prod-add-right zero a b c = sym (xor-zero 0)
   prod-add-right (suc n) a b c = rw (xor-shr 1 b c, prod-add-right n a (b / 2) (c / 2)) (simp (add-times01, x-add, xor-laws))
@@ -173,7 +173,7 @@ module _ (k p : ℕ) where
   prod-zero n a = additive-zero (productN k p n a) (prod-add-right n a)
 
   -- a times 2 ^ i is i times x
-  prod-pow : (n i a : ℕ) → i < n → productN k p n a (2 ^ i) ≡ xs i a
+  pub prod-pow : (n i a : ℕ) → i < n → productN k p n a (2 ^ i) ≡ xs i a
   unfolding productN xs times01
   prod-pow zero i a h = absurd (not-suc-le-zero h)
   prod-pow (suc n) zero a h = rw (prod-zero n a, x-zero) (xor-zero a)
@@ -187,7 +187,7 @@ module _ (k p : ℕ) where
     unfolding product
     one-left = basis k (product k p 1) (λ a. a) (prod-add-right k 1) (λ a b. refl) (λ i h. prod-pow k i 1 h ∙ xs-one i h)
 
-    xs-left : (i : ℕ) → i < k → (a : ℕ) → a < 2 ^ k → product k p (2 ^ i) a ≡ xs i a
+    pub xs-left : (i : ℕ) → i < k → (a : ℕ) → a < 2 ^ k → product k p (2 ^ i) a ≡ xs i a
     unfolding product
     xs-left i h a ha = rw (← xs-one i h) (prod-xs i k 1 a ∙ ap (xs i) (one-left a ha))
 

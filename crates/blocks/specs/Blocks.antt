@@ -1,12 +1,16 @@
 -- Blocks. A block is a number below 2 ^ 128: its 16 bytes read first byte highest, so that binary digit i is the coefficient of the
 -- power i of x.
-use Prim.Native.Nat.{ℕ, zero, suc, _+_, _-_, _/_, _^_, _<_}
+use Prim.Native.Nat.{ℕ, zero, suc, _+_, _-_, _/_, _%_, _^_, _<_}
 use mathlib.Core.List.{List, [], _∷_, _++_}
 use lib.ListN.{length, take, drop, replicate}
 use Rattle.strings.specs.Bytes.{number, bytes}
 
 abbrev pub IsBlock : ℕ → Type 0
 IsBlock b = b < 2 ^ 128
+
+-- 01, "bin(l) is l as a 16-byte big-endian number": as a block it is l itself, cut where 16 bytes do not hold it.
+unfoldable pub bin : ℕ → ℕ
+bin l = l % 2 ^ 128
 
 -- 01, "Padding appends zero bytes up to 16".
 unfoldable pub pad : List ℕ → List ℕ

@@ -1,6 +1,6 @@
 -- Polynomials with coefficients 0 and 1, where x ^ k = p, as numbers below 2 ^ k: digit i is the coefficient of the power i of x, and
 -- the sum is exclusive or. 01's field of blocks is at (128, 0x87), "the polynomial with the powers 128, 7, 2, 1 and 0"; the field of
--- bytes of AES is at (8, 0x1b), FIPS 197, 4.2. Both are proved to be commutative rings, and AES's bytes to be a field; that
+-- bytes of AES is at (8, 0x1b), FIPS 197, 4.2. Both are proved to be commutative rings, and AES's bytes, in `primitives`, to be a field; that
 -- each block but 0 has an inverse is not shown here yet.
 use Prim.Native.Nat.{ℕ, zero, suc, _*_, _/_, _%_, _^_, _<_}
 use mathlib.Core.Path.{_≡_}

@@ -3,6 +3,5 @@ pub mod BlockCipher
 pub mod Field
 pub mod BlockField
 pub mod Counter
-pub mod Aes
 pub mod Inner
 pub mod Theorems

@@ -6,11 +6,8 @@ use Rattle.strings.specs.Bytes.{Below}
 use Rattle.blocks.specs.Field.{timesX, product, power, powerSum, Ring}
 use Rattle.blocks.specs.BlockField.{_·_}
 use Rattle.blocks.specs.Inner.{horner}
-use Rattle.strings.specs.Cipher.{Permutation, Cipher}
-use Rattle.blocks.specs.Blocks.{IsBlock}
-use Rattle.blocks.specs.BlockCipher.{BlockPermutation}
+use Rattle.strings.specs.Cipher.{Cipher}
 use Rattle.blocks.specs.Counter.{maskedBytes}
-use Rattle.blocks.specs.Aes.{Byte, _•_, inverse, sBox, invSBox, State, subBytes, invSubBytes, shiftRows, invShiftRows, mixColumns, invMixColumns, addRoundKey, cipher, invCipher, encipher, decipher, aes}
 
 pub record Theorems : Type 0 where
   -- For every width and polynomial the product makes a commutative ring, in which x ^ k is p; 01's blocks and the bytes of AES.
@@ -23,17 +20,3 @@ pub record Theorems : Type 0 where
       → horner _·_ R 0 As ≡ powerSum one _·_ R As
   -- Counter mode is a cipher of n bytes for every n, and its own inverse.
   pub counter-mode : (mask : ℕ → ℕ) (i n : ℕ) → Cipher n (maskedBytes mask i) (maskedBytes mask i)
-  -- The bytes of AES have inverses: with its ring of bytes, they are a field.
-  pub inverse-of-byte : (a : ℕ) → 0 < a → Byte a → a • inverse a ≡ 1
-  pub inverse-of-zero : inverse 0 ≡ 0
-  -- FIPS 197: the S-box and the steps of a round are permutations, each with its inverse.
-  pub sbox-permutation : Permutation Byte sBox invSBox
-  pub sub-bytes : Permutation State subBytes invSubBytes
-  pub shift-rows : Permutation State shiftRows invShiftRows
-  pub mix-columns : Permutation State mixColumns invMixColumns
-  pub add-round-key : (k : List ℕ) → State k → Permutation State (addRoundKey k) (addRoundKey k)
-  -- So is the cipher, with any round keys and any number of rounds, and AES under every key.
-  pub cipher-permutation : (roundKeys : ℕ → List ℕ) → ((i : ℕ) → State (roundKeys i)) → (Nr : ℕ)
-      → Permutation State (cipher roundKeys Nr) (invCipher roundKeys Nr)
-  pub words-permutation : (Nr : ℕ) (w : List ℕ) → Permutation IsBlock (encipher Nr w) (decipher Nr w)
-  pub aes-permutation : (key : List ℕ) → BlockPermutation (aes key)

@@ -1,7 +1,3 @@
-// Byte strings as blocks, the field of 2^128 elements, and AES.
-pub mod aes;
+// Byte strings as blocks, and products of blocks with no reduction.
 pub mod block;
-pub mod field;
-mod inv_sbox;
-mod sbox;
-mod state;
+pub mod unreduced;

@@ -8,7 +8,7 @@ use lib.ListN.{length, length-drop}
 use borrow.Author.Tests.{ne-eqb, lt-ltb, le-ltb}
 use Rattle.strings.specs.Call.{looksAt, leftBy}
 use Rattle.strings.proofs.Refusals.{refusal-range}
-use Rattle.blocks.specs.Aes.{isKey}
+use Rattle.primitives.specs.Aes.{isKey}
 use Rattle.hch.specs.Call.{tests}
 use Rattle.pack.specs.Sealing.{tests as testsOfSealing}
 use Rattle.pack.specs.Opening.{tests as testsOfOpening}

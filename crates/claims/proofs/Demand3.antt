@@ -10,8 +10,8 @@ use lib.Dec.{leb}
 use lib.ListN.{length}
 use Rattle.strings.specs.Cipher.{TweakableCipher}
 use Rattle.strings.specs.One.{tally, count}
-use Rattle.blocks.specs.Aes.{isKey}
-use Rattle.blocks.proofs.Theorems as Blocks
+use Rattle.primitives.specs.Aes.{isKey}
+use Rattle.primitives.proofs.Theorems as Aes
 use Rattle.hch.specs.Hch.{hch}
 use Rattle.hch.proofs.Theorems as Hch
 use Rattle.pack.specs.Theorems.{Pack}
@@ -36,7 +36,7 @@ pub demand-3 : Demand3
 demand-3 = record {
   any-permutation = λ c p T t C b n. Hch.theorems .permutation-one-plaintext c p T (length C) t n C (refl, b) .one;
   any-permutation-counted = λ c p T t C b n. Hch.theorems .permutation-one-plaintext c p T (length C) t n C (refl, b) .counted;
-  aes-permutation = Blocks.theorems .aes-permutation;
+  aes-permutation = Aes.theorems .aes-permutation;
   one-message = λ key tweak C t b n. Hch.theorems .one-plaintext key tweak (length C) t n C (refl, b) .one;
   one-message-counted = λ key tweak C t b n. Hch.theorems .one-plaintext key tweak (length C) t n C (refl, b) .counted;
   hch-tweakable = hch-tweakable;

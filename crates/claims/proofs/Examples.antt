@@ -1,6 +1,6 @@
--- Each example is shown in the crate of its definitions.
+-- Each example is shown in a crate below.
 -- Assumes nothing.
-use Rattle.blocks.proofs.Examples as field
+use Rattle.primitives.proofs.Examples as field
 use Rattle.hch.proofs.Examples as scheme
 use Rattle.layout.proofs.Examples as layout
 use Rattle.claims.specs.Examples.{Examples}

@@ -4,7 +4,7 @@ use mathlib.Core.Path.{refl}
 use Rattle.strings.specs.Xor.{_⊕_}
 use Rattle.strings.specs.Bytes.{number, bytes}
 use Rattle.blocks.specs.Field.{times01, timesX, productN, product, power}
-use Rattle.blocks.specs.Aes.{squares, inverse, bit, ofBits, affine, sBox, at, state, subBytes, shiftRows, mixed, mixColumns, addRoundKey, rounds, cipher, word, byteOf, rotWord, subWord, rcon, temp, ownWord, keyWord, keyWords, keyExpansion, roundKey, encipher, aes}
+use Rattle.primitives.specs.Aes.{squares, inverse, bit, ofBits, affine, sBox, at, state, subBytes, shiftRows, mixed, mixColumns, addRoundKey, rounds, cipher, word, byteOf, rotWord, subWord, rcon, temp, ownWord, keyWord, keyWords, keyExpansion, roundKey, encipher, aes}
 use Rattle.claims.specs.Fips197.{Fips197}
 
 pub fips-197 : Fips197

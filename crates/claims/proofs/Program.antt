@@ -5,7 +5,7 @@ use mathlib.Core.List.{flatMap}
 use Rattle.text.specs.Hex.{digit, isDigit, value, hex, allDigits, isHex, unhex}
 use Rattle.text.specs.Part.{splitFrom}
 use Rattle.strings.specs.Call.{looksAt}
-use Rattle.blocks.specs.Aes.{isKey}
+use Rattle.primitives.specs.Aes.{isKey}
 use Rattle.hch.specs.Call.{tests}
 use Rattle.line.specs.Line.{commanded, requested, requestOf, decimal, refusal, reply, replyTo, answer}
 use Rattle.line.specs.Input.{linesOf, answers}

@@ -10,7 +10,7 @@ use Rattle.strings.specs.One.{ExactlyOne, count}
 use Rattle.blocks.specs.Blocks.{IsBlock}
 use Rattle.blocks.specs.BlockCipher.{BlockCipher, BlockPermutation}
 use Rattle.blocks.specs.BlockField.{timesX, powerSum}
-use Rattle.blocks.specs.Aes.{aes}
+use Rattle.primitives.specs.Aes.{aes}
 use Rattle.hch.specs.Hch.{encipher, decipher, enciphered, deciphered, hch}
 use Rattle.pack.specs.Sealing.{seal}
 use Rattle.pack.specs.Opening.{numberOf, answerOf, opensTo, NoPayload}

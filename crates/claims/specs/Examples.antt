@@ -7,7 +7,7 @@ use Rattle.strings.specs.Xor.{_⊕_}
 use Rattle.strings.specs.Bytes.{number}
 use Rattle.blocks.specs.Blocks.{blocks, IsBlock}
 use Rattle.blocks.specs.BlockField.{timesX, _·_, powerSum}
-use Rattle.blocks.specs.Aes.{_•_, sBox}
+use Rattle.primitives.specs.Aes.{_•_, sBox}
 use Rattle.hch.specs.Hch.{lengthBlock, behindFirst, H}
 use Rattle.layout.specs.Layout.{plainBlock, tweak}
 

@@ -3,7 +3,7 @@ use Prim.Native.Nat.{ℕ}
 use mathlib.Core.Path.{_≡_}
 use mathlib.Core.List.{List}
 use Rattle.strings.specs.Bytes.{number, bytes}
-use Rattle.blocks.specs.Aes.{Nr, keyExpansion, roundKey, aes}
+use Rattle.primitives.specs.Aes.{Nr, keyExpansion, roundKey, aes}
 
 -- The key of appendices A.1 and B.
 abbrev pub key : List ℕ

@@ -8,12 +8,12 @@ use lib.ListN.{length, replicate, length-drop}
 use lib.Seq.{take-all}
 use Rattle.strings.specs.Xor.{_⊕_}
 use Rattle.strings.specs.Bytes.{number}
-use Rattle.blocks.specs.Blocks.{pad, firstBlock, cut, blocks}
+use Rattle.blocks.specs.Blocks.{bin, pad, firstBlock, cut, blocks}
 use Rattle.blocks.specs.BlockField.{_·_, powerSum}
 use Rattle.blocks.specs.Field.{power, powerSum as powerSumOver}
 use Rattle.blocks.proofs.Ring.{ring-of-blocks}
 use Rattle.strings.proofs.Xor.{xor-zero}
-use Rattle.hch.specs.Hch.{bin, lengthBlock, behindFirst, H}
+use Rattle.hch.specs.Hch.{lengthBlock, behindFirst, H}
 
 -- bin for 20 bytes is a0; for 512 bytes 1000; for 4,096 bytes 8000
 pub p9 : (lengthBlock 20 ≡ 0xa0) × (lengthBlock 512 ≡ 0x1000) × (lengthBlock 4096 ≡ 0x8000)

@@ -8,7 +8,7 @@ use lib.ListN.{length, take, drop}
 use lib.Pow.{pow-pos}
 use Rattle.strings.specs.Xor.{_⊕_}
 use Rattle.strings.specs.Bytes.{OfLength, number}
-use Rattle.blocks.specs.Blocks.{blocks, IsBlock}
+use Rattle.blocks.specs.Blocks.{blocks, IsBlock, bin}
 use Rattle.strings.specs.Cipher.{Cipher}
 use Rattle.blocks.specs.Counter.{maskedBytes}
 use Rattle.strings.proofs.Xor.{xor-assoc, xor-comm, xor-below}
@@ -16,7 +16,7 @@ use Rattle.blocks.proofs.Blocks.{blocks-below}
 use Rattle.blocks.proofs.Counter.{counter-cipher}
 use Rattle.strings.proofs.Pass.{pass, pass-cipher}
 use Rattle.strings.proofs.Permutations.{agreeing}
-use Rattle.hch.specs.Hch.{bin, lengthBlock, H, Ctr, encipher, decipher, Parts}
+use Rattle.hch.specs.Hch.{lengthBlock, H, Ctr, encipher, decipher, Parts}
 use Rattle.hch.specs.Inner.{ctrBytes, fromI}
 
 bin-below : (l : ℕ) → IsBlock (bin l)

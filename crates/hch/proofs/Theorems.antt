@@ -16,14 +16,14 @@ use Rattle.blocks.specs.Counter.{masked}
 use Rattle.strings.specs.One.{OnePreimage}
 use Rattle.strings.specs.Cipher.{Cipher}
 use Rattle.blocks.specs.BlockCipher.{BlockCipher, BlockPermutation}
-use Rattle.blocks.specs.Aes.{aes}
+use Rattle.primitives.specs.Aes.{aes}
 use Rattle.strings.proofs.Xor.{xor-zero, xor-comm}
 use Rattle.strings.proofs.Bytes.{number-below}
 use Rattle.blocks.proofs.Blocks.{blocks-nil}
 use Rattle.strings.proofs.One.{one-preimage}
 use Rattle.blocks.proofs.Ring.{x-below, ring-of-blocks}
 use Rattle.blocks.proofs.Horner.{power-sum-below}
-use Rattle.blocks.proofs.Theorems as Blocks
+use Rattle.primitives.proofs.Theorems as Aes
 use Rattle.hch.specs.Hch.{lengthBlock, H, Ctr, encipher, Parts, enciphered, deciphered}
 use Rattle.hch.specs.Theorems.{Theorems}
 use Rattle.hch.proofs.Scheme.{scheme-cipher}
@@ -40,7 +40,7 @@ tweak-block tweak h = rw (h .0) at (number-below tweak (h .1))
 
 pub hch-cipher : (key tweak : List ℕ) (n : ℕ) → OfLength 16 tweak → 16 ≤ n → Cipher n (enciphered key tweak) (deciphered key tweak)
 unfolding enciphered deciphered
-hch-cipher key tweak n h l = scheme-cipher (own-parts (aes key) (Blocks.theorems .aes-permutation key)) (number tweak) n (tweak-block tweak h) l
+hch-cipher key tweak n h l = scheme-cipher (own-parts (aes key) (Aes.theorems .aes-permutation key)) (number tweak) n (tweak-block tweak h) l
 
 one-plaintext : (key tweak : List ℕ) (n : ℕ) → OfLength 16 tweak → 16 ≤ n
     → (C : List ℕ) → OfLength n C → OnePreimage n (enciphered key tweak) C (deciphered key tweak C)

@@ -1,20 +1,16 @@
 -- HCH of Chakraborty and Sarkar, source document 001, over any block cipher E with its inverse D, any step by x and any keyed sum of blocks.
 -- A block is a number below 2 ^ 128 and a message P is a string of bytes, 16 or more. The paper's n is 128. Where the message is one block,
 -- nothing stands behind it: there is no sum, steps 2, 5 and 6 do nothing, and what is left is the paper's section II-A.
-use Prim.Native.Nat.{ℕ, _*_, _%_, _^_}
+use Prim.Native.Nat.{ℕ, _*_, _^_}
 use mathlib.Core.List.{List, _++_}
 use lib.ListN.{length, take, drop}
 use Rattle.strings.specs.Xor.{_⊕_}
 use Rattle.strings.specs.Bytes.{Below, number, bytes}
-use Rattle.blocks.specs.Blocks.{blocks, string, IsBlock}
+use Rattle.blocks.specs.Blocks.{blocks, string, IsBlock, bin}
 use Rattle.blocks.specs.BlockField.{timesX, powerSum}
 use Rattle.strings.specs.Cipher.{Permutation, Scheme}
 use Rattle.blocks.specs.Counter.{masked}
-use Rattle.blocks.specs.Aes.{isKey, aes}
-
--- 01, "bin(l) is l as a 16-byte big-endian number": as a block it is l itself, cut where 16 bytes do not hold it.
-unfoldable pub bin : ℕ → ℕ
-bin l = l % 2 ^ 128
+use Rattle.primitives.specs.Aes.{isKey, aes}
 
 -- bin(l) of a message of n bytes: l is its length in bits, and a byte is 8 of them.
 abbrev pub lengthBlock : ℕ → ℕ

@@ -3,9 +3,9 @@ use Prim.Native.Nat.{ℕ}
 use mathlib.Core.List.{List, _++_}
 use Rattle.strings.specs.Xor.{_⊕_}
 use Rattle.strings.specs.Bytes.{bytes}
-use Rattle.blocks.specs.Blocks.{blocks}
+use Rattle.blocks.specs.Blocks.{blocks, bin}
 use Rattle.blocks.specs.Counter.{maskedBytes}
-use Rattle.hch.specs.Hch.{bin, H}
+use Rattle.hch.specs.Hch.{H}
 
 -- Steps 5 and 6 on the bytes behind the first block.
 unfoldable pub ctrBytes : (E : ℕ → ℕ) → ℕ → List ℕ → List ℕ

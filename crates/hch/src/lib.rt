@@ -1,21 +1,20 @@
 // HCH of Chakraborty and Sarkar over AES, on lent bytes.
-ghost use Prim.Native.Nat.{_+_, _*_, _/_, _≤_};
+ghost use Prim.Native.Nat.{_≤_};
 ghost use mathlib.Core.Path.{_≡_};
-ghost use lib.ListN.{length, drop};
+ghost use lib.ListN.{length};
 ghost use Rattle.strings.specs.Xor.{_⊕_};
-ghost use Rattle.strings.specs.Bytes.{bytes};
-ghost use Rattle.strings.specs.Inner.{overwrite};
-ghost use Rattle.blocks.specs.Blocks.{firstBlock, blocks};
+ghost use Rattle.blocks.specs.Blocks.{blocks};
 ghost use Rattle.blocks.specs.BlockField.{timesX, powerSum};
-ghost use Rattle.blocks.specs.Inner.{value, under};
+ghost use Rattle.blocks.specs.Inner.{value};
+ghost use Rattle.primitives.specs.Inner.{under};
 ghost use Rattle.strings.specs.Call.{numberOf, looksAt, leftBy};
-ghost use Rattle.hch.specs.Hch.{bin, lengthBlock, behindFirst, H as polynomialHash, encipher, decipher, enciphered, deciphered, hch as scheme};
+ghost use Rattle.hch.specs.Hch.{lengthBlock, behindFirst, H as polynomialHash, encipher, decipher, enciphered, deciphered, hch as scheme};
 ghost use Rattle.hch.specs.Inner.{ctrBytes, fromI};
 ghost use Rattle.hch.specs.Call.{tests, answerOf, IsCipher, OnePlaintext};
-use blocks::aes;
-use blocks::aes::ExpandedKey;
 use blocks::block::Block;
-use blocks::field;
+use primitives::aes;
+use primitives::aes::ExpandedKey;
+use primitives::field;
 use strings::refusal::Answer;
 use strings::refusal::Refusal;
 
@@ -38,22 +37,12 @@ fn judge(key: &[u8], tweak: &[u8], message: &[u8]) -> Answer
         .refuse_if(message.len() > 4096, Refusal::TooLong)
 }
 
-// a ⊕ bin(n).
-fn xor_bin(a: Block, n: usize) -> Block
-    ensures { λ r. ⌜ value r ≡ value a ⊕ bin n ⌝ }
-{
-    Block {
-        hi: a.hi,
-        lo: a.lo ^ (n as u64),
-    }
-}
-
 // Step 1: Q, from R and the length in bytes.
 fn hash_q(expanded: ExpandedKey, r: Block, length: usize) -> Block
     requires { ⌜ length ≤ 4096 ⌝ }
     ensures { λ x. ⌜ value x ≡ under expanded .E (value r ⊕ lengthBlock length) ⌝ }
 {
-    expanded.encipher(xor_bin(r, 8 * length))
+    expanded.encipher(r.xor_bin(8 * length))
 }
 
 // Formula (1): the first block by itself, the others where they stand in `message`, behind the first 16 bytes.
@@ -64,23 +53,11 @@ fn hash(r: Block, q: Block, first: Block, message: &[u8]) -> Block
     q.xor(first).xor(field::power_sum(r, &message[16..]))
 }
 
-// Adds E(S ⊕ bin(at / 16 + 1)) to the block at `at`, cut where `message` ends.
-fn mask_block(expanded: ExpandedKey, s: Block, message: &mut [u8], at: usize)
-    ensures { λ _. ⌜ now (message .exit) ≡ overwrite at (bytes 16 (firstBlock (drop at (now (message .entry))) ⊕ under expanded .E (value s ⊕ bin (at / 16 + 1)))) (now (message .entry)) ⌝ }
-{
-    let mask = expanded.encipher(xor_bin(s, at / 16 + 1));
-    Block::read(message, at).xor(mask).write(message, at);
-}
-
 // Formula (3) on bytes, block by block where they stand, the last cut as it was.
 fn counter(expanded: ExpandedKey, s: Block, message: &mut [u8])
     ensures { λ _. ⌜ now (message .exit) ≡ ctrBytes (under expanded .E) (value s) (now (message .entry)) ⌝ }
 {
-    let mut at = 0;
-    while at < message.len() {
-        mask_block(expanded, s, message, at);
-        at += 16;
-    }
+    expanded.counter(s, message);
 }
 
 // Table II from I on: the counter step on the bytes from 16 on, and the hash of what they are then, in the place of the first block.

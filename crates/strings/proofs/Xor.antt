@@ -57,7 +57,7 @@ digit-assoc (suc zero) (suc zero) (suc (suc z)) hx hy hz = absurd (omega arith)
 digit-assoc (suc zero) (suc (suc y)) z hx hy hz = absurd (omega arith)
 digit-assoc (suc (suc x)) y z hx hy hz = absurd (omega arith)
 
-by-digits : (a b : ℕ) → a / 2 ≡ b / 2 → a % 2 ≡ b % 2 → a ≡ b
+pub by-digits : (a b : ℕ) → a / 2 ≡ b / 2 → a % 2 ≡ b % 2 → a ≡ b
 by-digits a b h l = omega arith
 
 bit : (a : ℕ) → a % 2 < 2

@@ -24,11 +24,11 @@ mod fields;
 mod message;
 mod sealing;
 
-use blocks::aes::ExpandedKey;
 use blocks::block::Block;
-use blocks::field;
 use libc::STDIN_FILENO;
 use libc::STDOUT_FILENO;
+use primitives::aes::ExpandedKey;
+use primitives::field;
 use text::hex::Decoded;
 use text::part::Kept;
 

@@ -4,7 +4,7 @@ use mathlib.Core.Path.{_≡_, refl, sym, ap, _∙_}
 use borrow.Author.Needs.{needs}
 use denote.Ref.{now}
 use lib.ListN.{length}
-use Rattle.blocks.specs.Aes.{aes}
+use Rattle.primitives.specs.Aes.{aes}
 use Rattle.blocks.proofs.Blocks.{block-whole}
 use Rattle.hch.specs.Hch.{deciphered}
 use Rattle.strings.specs.Call.{numberOf}

@@ -3,7 +3,8 @@
 use borrow.Author.Needs.{needs}
 use denote.Ref.{now}
 use Rattle.blocks.specs.BlockField.{powerSum}
-use Rattle.blocks.specs.Inner.{value, under}
+use Rattle.blocks.specs.Inner.{value}
+use Rattle.primitives.specs.Inner.{under}
 use Rattle.hch.proofs.LentBytes.{finished}
 use Rattle.hch.proofs.finish.Statement.{statement}
 use Rattle.hch.proofs.finish.Tie as tie

@@ -1,0 +1,10 @@
+pub mod Reduction
+pub mod OnBlocks
+pub mod Inverse
+pub mod Words
+pub mod Substitution
+pub mod Columns
+pub mod Rounds
+pub mod Mixing
+pub mod Examples
+pub mod Theorems

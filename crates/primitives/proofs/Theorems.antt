@@ -1,0 +1,20 @@
+-- Every theorem of specs/Theorems.antt, from the laws beside this file.
+-- Assumes nothing.
+use Rattle.primitives.specs.Theorems.{Theorems}
+use Rattle.primitives.proofs.Inverse.{inverse-zero, inverse-product}
+use Rattle.primitives.proofs.Substitution.{sbox-permutation}
+use Rattle.primitives.proofs.Rounds as Rounds
+
+pub theorems : Theorems
+theorems = record {
+  inverse-of-byte = inverse-product;
+  inverse-of-zero = inverse-zero;
+  sbox-permutation = sbox-permutation;
+  sub-bytes = Rounds.sub-bytes sbox-permutation;
+  shift-rows = Rounds.shift-rows;
+  mix-columns = Rounds.mix-columns;
+  add-round-key = Rounds.add-round-key;
+  cipher-permutation = Rounds.cipher-permutation sbox-permutation;
+  words-permutation = Rounds.block-permutation sbox-permutation;
+  aes-permutation = Rounds.aes-permutation sbox-permutation;
+}

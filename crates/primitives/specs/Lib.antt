@@ -1,0 +1,3 @@
+pub mod Aes
+pub mod Inner
+pub mod Theorems
