@@ -1,7 +1,7 @@
 /* AES-128 in plain C, to measure against: a table for the S-box, MixColumns byte by byte, no intrinsics. */
 #include "aes.h"
 
-static const uint8_t sbox[256] = {
+const uint8_t plain_sbox[256] = {
     0x63, 0x7c, 0x77, 0x7b, 0xf2, 0x6b, 0x6f, 0xc5, 0x30, 0x01, 0x67, 0x2b, 0xfe, 0xd7, 0xab, 0x76,
     0xca, 0x82, 0xc9, 0x7d, 0xfa, 0x59, 0x47, 0xf0, 0xad, 0xd4, 0xa2, 0xaf, 0x9c, 0xa4, 0x72, 0xc0,
     0xb7, 0xfd, 0x93, 0x26, 0x36, 0x3f, 0xf7, 0xcc, 0x34, 0xa5, 0xe5, 0xf1, 0x71, 0xd8, 0x31, 0x15,
@@ -20,7 +20,7 @@ static const uint8_t sbox[256] = {
     0x8c, 0xa1, 0x89, 0x0d, 0xbf, 0xe6, 0x42, 0x68, 0x41, 0x99, 0x2d, 0x0f, 0xb0, 0x54, 0xbb, 0x16,
 };
 
-static const uint8_t inv_sbox[256] = {
+const uint8_t plain_inv_sbox[256] = {
     0x52, 0x09, 0x6a, 0xd5, 0x30, 0x36, 0xa5, 0x38, 0xbf, 0x40, 0xa3, 0x9e, 0x81, 0xf3, 0xd7, 0xfb,
     0x7c, 0xe3, 0x39, 0x82, 0x9b, 0x2f, 0xff, 0x87, 0x34, 0x8e, 0x43, 0x44, 0xc4, 0xde, 0xe9, 0xcb,
     0x54, 0x7b, 0x94, 0x32, 0xa6, 0xc2, 0x23, 0x3d, 0xee, 0x4c, 0x95, 0x0b, 0x42, 0xfa, 0xc3, 0x4e,
@@ -51,7 +51,7 @@ static void add_round_key(uint8_t s[16], const uint32_t w[4]) {
 }
 
 static void sub_bytes(uint8_t s[16]) {
-    for (int i = 0; i < 16; i++) s[i] = sbox[s[i]];
+    for (int i = 0; i < 16; i++) s[i] = plain_sbox[s[i]];
 }
 
 static void shift_rows(uint8_t s[16]) {
@@ -62,7 +62,7 @@ static void shift_rows(uint8_t s[16]) {
     t = s[15], s[15] = s[11], s[11] = s[7], s[7] = s[3], s[3] = t;
 }
 
-static void mix_columns(uint8_t s[16]) {
+void plain_mix_columns(uint8_t s[16]) {
     for (int c = 0; c < 4; c++) {
         uint8_t *p = s + 4 * c;
         uint8_t first = p[0], all = p[0] ^ p[1] ^ p[2] ^ p[3];
@@ -74,7 +74,7 @@ static void mix_columns(uint8_t s[16]) {
 }
 
 static void inv_sub_bytes(uint8_t s[16]) {
-    for (int i = 0; i < 16; i++) s[i] = inv_sbox[s[i]];
+    for (int i = 0; i < 16; i++) s[i] = plain_inv_sbox[s[i]];
 }
 
 static void inv_shift_rows(uint8_t s[16]) {
@@ -85,8 +85,8 @@ static void inv_shift_rows(uint8_t s[16]) {
     t = s[3], s[3] = s[7], s[7] = s[11], s[11] = s[15], s[15] = t;
 }
 
-/* The inverse matrix is the matrix of mix_columns times the one with the rows 5040, 0504, 4050, 0405. */
-static void inv_mix_columns(uint8_t s[16]) {
+/* The inverse matrix is the matrix of plain_mix_columns times the one with the rows 5040, 0504, 4050, 0405. */
+void plain_inv_mix_columns(uint8_t s[16]) {
     for (int c = 0; c < 4; c++) {
         uint8_t *p = s + 4 * c;
         uint8_t even = times_x(times_x(p[0] ^ p[2])), odd = times_x(times_x(p[1] ^ p[3]));
@@ -95,7 +95,7 @@ static void inv_mix_columns(uint8_t s[16]) {
         p[2] ^= even;
         p[3] ^= odd;
     }
-    mix_columns(s);
+    plain_mix_columns(s);
 }
 
 void plain_aes_expand(uint32_t w[44], const uint8_t key[16]) {
@@ -105,7 +105,7 @@ void plain_aes_expand(uint32_t w[44], const uint8_t key[16]) {
     for (int i = 4; i < 44; i++) {
         uint32_t t = w[i - 1];
         if (i % 4 == 0) {
-            t = (uint32_t)sbox[t >> 16 & 255] << 24 | (uint32_t)sbox[t >> 8 & 255] << 16 | (uint32_t)sbox[t & 255] << 8 | sbox[t >> 24];
+            t = (uint32_t)plain_sbox[t >> 16 & 255] << 24 | (uint32_t)plain_sbox[t >> 8 & 255] << 16 | (uint32_t)plain_sbox[t & 255] << 8 | plain_sbox[t >> 24];
             t ^= (uint32_t)constant << 24;
             constant = times_x(constant);
         }
@@ -118,7 +118,7 @@ void plain_aes_encipher(const uint32_t w[44], uint8_t s[16]) {
     for (int n = 1; n < 10; n++) {
         sub_bytes(s);
         shift_rows(s);
-        mix_columns(s);
+        plain_mix_columns(s);
         add_round_key(s, w + 4 * n);
     }
     sub_bytes(s);
@@ -132,7 +132,7 @@ void plain_aes_decipher(const uint32_t w[44], uint8_t s[16]) {
         inv_shift_rows(s);
         inv_sub_bytes(s);
         add_round_key(s, w + 4 * n);
-        inv_mix_columns(s);
+        plain_inv_mix_columns(s);
     }
     inv_shift_rows(s);
     inv_sub_bytes(s);

@@ -1,7 +1,8 @@
-/* Times the library beside plain C, and sealing and opening beside the library's HCH alone, turn by turn in one run, and prints the ratio of
-   the best times: below 1 the library is faster than plain C; for sealing and opening 1 is HCH itself. */
+/* Times the library beside careful and plain C, and sealing and opening beside the library's HCH alone, turn by turn in one run, and
+   prints the best times of one call and their ratios: below 1 the library is faster than the C; for sealing and opening 1 is HCH itself. */
 #define _POSIX_C_SOURCE 199309L
 #include "aes.h"
+#include "careful.h"
 #include "hch.h"
 #include <boards.h>
 #include <stdio.h>
@@ -11,15 +12,28 @@
 
 /* From the archive of crates/bench, for boards.h has no call on a single block. A slice is a pointer and a length. */
 void bench_aes_encipher(const uint32_t words[44], uint8_t *data, size_t length);
+void bench_aes_decipher(const uint32_t words[44], uint8_t *data, size_t length);
+void bench_product(const uint8_t *a, size_t a_length, uint8_t *data, size_t length);
 
-enum { TURNS = 40, BLOCKS = 20000, BYTES = 40000 };
+enum { TURNS = 600, ROWS = 9, SIDES = 3 };
 
 static const uint8_t key[16] = {0x2b, 0x7e, 0x15, 0x16, 0x28, 0xae, 0xd2, 0xa6, 0xab, 0xf7, 0x15, 0x88, 0x09, 0xcf, 0x4f, 0x3c};
 static const uint8_t tweak[16] = {1};
-static uint32_t w[44];
 
-/* What is measured: both sides do the same work on the bytes that they are lent. */
+/* What the calls on a single block find made, and each call of HCH makes anew: the expanded key, and the careful C's multiples. */
+static uint32_t w[44], inverted[44];
+static careful_factor multiples;
+
+/* What is measured: all sides do the same work on the bytes that they are lent. */
 typedef void work(uint8_t *data, size_t length);
+
+/* The library comes first. Where there are two sides, the third is NULL. */
+typedef struct {
+    const char *name;
+    size_t length;
+    int calls;
+    work *sides[SIDES];
+} row;
 
 /* Every call that is measured is one that is done. */
 static void done(uint32_t answer) {
@@ -28,15 +42,21 @@ static void done(uint32_t answer) {
     exit(1);
 }
 
-static void library_aes(uint8_t *data, size_t length) { bench_aes_encipher(w, data, length); }
-static void plain_aes(uint8_t *data, size_t length) {
-    (void)length;
-    plain_aes_encipher(w, data);
-}
-static void library_encipher(uint8_t *data, size_t length) { done(boards_encipher(key, 16, tweak, 16, data, length)); }
-static void plain_encipher(uint8_t *data, size_t length) { plain_hch_encipher(key, tweak, data, length); }
-static void library_decipher(uint8_t *data, size_t length) { done(boards_decipher(key, 16, tweak, 16, data, length)); }
-static void plain_decipher(uint8_t *data, size_t length) { plain_hch_decipher(key, tweak, data, length); }
+static void aes_library(uint8_t *data, size_t length) { bench_aes_encipher(w, data, length); }
+static void aes_careful(uint8_t *data, size_t length) { (void)length, careful_aes_encipher(w, data); }
+static void aes_plain(uint8_t *data, size_t length) { (void)length, plain_aes_encipher(w, data); }
+static void inverse_library(uint8_t *data, size_t length) { bench_aes_decipher(w, data, length); }
+static void inverse_careful(uint8_t *data, size_t length) { (void)length, careful_aes_decipher(inverted, data); }
+static void inverse_plain(uint8_t *data, size_t length) { (void)length, plain_aes_decipher(w, data); }
+static void product_library(uint8_t *data, size_t length) { bench_product(key, 16, data, length); }
+static void product_careful(uint8_t *data, size_t length) { (void)length, careful_product(&multiples, data); }
+static void product_plain(uint8_t *data, size_t length) { (void)length, plain_product(key, data); }
+static void encipher_library(uint8_t *data, size_t length) { done(boards_encipher(key, 16, tweak, 16, data, length)); }
+static void encipher_careful(uint8_t *data, size_t length) { careful_hch_encipher(key, tweak, data, length); }
+static void encipher_plain(uint8_t *data, size_t length) { plain_hch_encipher(key, tweak, data, length); }
+static void decipher_library(uint8_t *data, size_t length) { done(boards_decipher(key, 16, tweak, 16, data, length)); }
+static void decipher_careful(uint8_t *data, size_t length) { careful_hch_decipher(key, tweak, data, length); }
+static void decipher_plain(uint8_t *data, size_t length) { plain_hch_decipher(key, tweak, data, length); }
 
 /* The 512-byte block for pack 1, place 258, beside HCH alone on what is enciphered or deciphered. Its tweak is 01's P12. */
 static const uint8_t block_tweak[16] = {0, 0, 0, 0, 0, 0, 0, 1, 0, 0, 0, 0, 0, 0, 1, 2};
@@ -75,40 +95,80 @@ static double now(void) {
     return (double)t.tv_sec + (double)t.tv_nsec * 1e-9;
 }
 
-/* Prints the best times of `calls` calls each, and says whether the two left the same bytes. */
-static int compare(const char *name, const char *beside, work *library, work *other, size_t length, int calls) {
-    uint8_t a[4096] = {0}, b[4096] = {0};
-    double best_library = 1e9, best_other = 1e9;
+/* The best time of one call of each side of each row, in nanoseconds. A turn goes through all rows, so that what else the machine does for
+   some seconds slows no row in all turns; and from turn to turn the stack stands elsewhere, for that alone is worth some per cent. The
+   first call of each side in a turn, which finds the caches cold, is not timed. In every turn all sides of a row are to leave the same bytes. */
+static void measure(const row *rows, int count, double best[][SIDES]) {
+    static uint8_t data[ROWS][SIDES][4096];
+    memset(data, 1, sizeof data); /* not 0, for the product would stay 0 */
     for (int turn = 0; turn < TURNS; turn++) {
-        double start = now();
-        for (int i = 0; i < calls; i++) library(a, length);
-        double middle = now();
-        for (int i = 0; i < calls; i++) other(b, length);
-        double end = now();
-        if (middle - start < best_library) best_library = middle - start;
-        if (end - middle < best_other) best_other = end - middle;
-        if (memcmp(a, b, length) != 0) {
-            printf("%s: the two differ\n", name);
-            return 0;
-        }
+        volatile uint8_t room[16 + turn * 80 % 4096];
+        room[0] = 0, (void)room[0];
+        for (int i = 0; i < count; i++)
+            for (int side = 0; side < SIDES && rows[i].sides[side] != NULL; side++) {
+                work *call = rows[i].sides[side];
+                uint8_t *bytes = data[i][side];
+                call(bytes, rows[i].length);
+                double start = now();
+                for (int n = 0; n < rows[i].calls; n++) call(bytes, rows[i].length);
+                double time = (now() - start) / rows[i].calls * 1e9;
+                if (turn == 0 || time < best[i][side]) best[i][side] = time;
+                if (memcmp(bytes, data[i][0], rows[i].length) == 0) continue;
+                printf("%s: the bytes differ\n", rows[i].name);
+                exit(1);
+            }
     }
-    printf("%s: library %.0f ns, %s %.0f ns, ratio %.2f\n", name, best_library / calls * 1e9, beside, best_other / calls * 1e9,
-           best_library / best_other);
-    return 1;
+}
+
+/* The last four rows are in pairs, which print_growth compares. */
+static const row beside_c[ROWS] = {
+    {"AES-128, enciphering a block", 16, 3000, {aes_library, aes_careful, aes_plain}},
+    {"AES-128, deciphering a block", 16, 2000, {inverse_library, inverse_careful, inverse_plain}},
+    {"one product", 16, 3000, {product_library, product_careful, product_plain}},
+    {"HCH, enciphering 16 bytes", 16, 600, {encipher_library, encipher_careful, encipher_plain}},
+    {"HCH, deciphering 16 bytes", 16, 600, {decipher_library, decipher_careful, decipher_plain}},
+    {"HCH, enciphering 512 bytes", 512, 32, {encipher_library, encipher_careful, encipher_plain}},
+    {"HCH, deciphering 512 bytes", 512, 32, {decipher_library, decipher_careful, decipher_plain}},
+    {"HCH, enciphering 4,096 bytes", 4096, 4, {encipher_library, encipher_careful, encipher_plain}},
+    {"HCH, deciphering 4,096 bytes", 4096, 4, {decipher_library, decipher_careful, decipher_plain}},
+};
+
+static const row beside_alone[] = {
+    {"sealing an empty payload", 512, 32, {seal_block, encipher_alone}},
+    {"opening an empty payload", 512, 32, {open_block, decipher_alone}},
+    {"sealing 496 bytes", 512, 32, {seal_block, encipher_alone}},
+    {"opening 496 bytes", 512, 32, {open_block, decipher_alone}},
+};
+
+static void print_growth(const char *name, double at_512[SIDES], double at_4096[SIDES]) {
+    printf("%-30s", name);
+    for (int side = 0; side < SIDES; side++) printf(" %9.2f", at_4096[side] / at_512[side]);
+    printf("\n");
 }
 
 int main(void) {
+    double best[ROWS][SIDES];
     plain_aes_expand(w, key);
-    int same = compare("AES-128, one block", "plain C", library_aes, plain_aes, 16, BLOCKS);
-    same &= compare("HCH, enciphering 512 bytes", "plain C", library_encipher, plain_encipher, 512, BYTES / 512);
-    same &= compare("HCH, deciphering 512 bytes", "plain C", library_decipher, plain_decipher, 512, BYTES / 512);
-    same &= compare("HCH, enciphering 4,096 bytes", "plain C", library_encipher, plain_encipher, 4096, BYTES / 4096);
-    same &= compare("HCH, deciphering 4,096 bytes", "plain C", library_decipher, plain_decipher, 4096, BYTES / 4096);
+    careful_start();
+    memcpy(inverted, w, sizeof w);
+    careful_aes_invert(inverted);
+    careful_prepare(&multiples, key);
+
+    measure(beside_c, ROWS, best);
+    printf("%-30s %9s %9s %9s %16s %14s\n", "nanoseconds a call", "library", "careful C", "plain C", "library/careful", "library/plain");
+    for (int i = 0; i < ROWS; i++) {
+        double *b = best[i];
+        printf("%-30s %9.0f %9.0f %9.0f %16.2f %14.2f\n", beside_c[i].name, b[0], b[1], b[2], b[0] / b[1], b[0] / b[2]);
+    }
+    printf("\n%-30s %9s %9s %9s\n", "4,096 bytes over 512 bytes", "library", "careful C", "plain C");
+    print_growth("HCH, enciphering", best[ROWS - 4], best[ROWS - 2]);
+    print_growth("HCH, deciphering", best[ROWS - 3], best[ROWS - 1]);
+
     prepare(0);
-    same &= compare("sealing an empty payload", "HCH alone", seal_block, encipher_alone, 512, BYTES / 512);
-    same &= compare("opening an empty payload", "HCH alone", open_block, decipher_alone, 512, BYTES / 512);
+    measure(beside_alone, 2, best);
     prepare(496);
-    same &= compare("sealing 496 bytes", "HCH alone", seal_block, encipher_alone, 512, BYTES / 512);
-    same &= compare("opening 496 bytes", "HCH alone", open_block, decipher_alone, 512, BYTES / 512);
-    return same ? 0 : 1;
+    measure(beside_alone + 2, 2, best + 2);
+    printf("\n%-30s %9s %9s %16s\n", "nanoseconds a call", "library", "HCH alone", "library/alone");
+    for (int i = 0; i < 4; i++) printf("%-30s %9.0f %9.0f %16.2f\n", beside_alone[i].name, best[i][0], best[i][1], best[i][0] / best[i][1]);
+    return 0;
 }
