@@ -26,7 +26,7 @@
  *     other.
  *   - No call can tell whether a pointer, a length or an overlap is wrong in this sense: nothing is promised then.
  *   - Nothing is kept between calls, no memory is allocated, and no system call is made. As compiled today, a call
- *     takes some 5.5 KiB of stack. Any number of threads may call at once, as long as none is lent bytes that another
+ *     takes some 5 KiB of stack. Any number of threads may call at once, as long as none is lent bytes that another
  *     one's call may write.
  *   - The bytes may stand at any address: nothing has to be aligned.
  *

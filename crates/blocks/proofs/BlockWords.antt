@@ -1,22 +1,23 @@
 -- A block by its four words, and the words as they stand in a string.
 -- Assumes nothing.
 use Prim.Native.Nat.{ℕ, suc, _+_, _*_, _/_, _%_, _^_, _<_}
-use mathlib.Core.Path.{_≡_, sym, _∙_}
+use mathlib.Core.Path.{_≡_, refl, sym, _∙_}
 use mathlib.Core.List.{List, [], _∷_, _++_}
 use native.Mathlib.Nat.{add-zero, add-suc, suc-add, add-assoc, mod-eq-of-lt, div-add-mod'}
 use native.Mathlib.Numerals.{add-one}
 use native.Mathlib.Omega.{arith}
 use lib.Arith.{digits-lt}
 use lib.ListN.{length, getD, drop, set, length-append}
-use lib.Seq.{getD-drop, drop-drop}
-use Rattle.strings.specs.Bytes.{Below, Bytes, number, bytes}
+use lib.Seq.{getD-drop, drop-drop, take-all}
+use Rattle.strings.specs.Bytes.{Below, Bytes, OfLength, number, bytes}
 use Rattle.strings.specs.Inner.{padded, overwrite}
-use Rattle.strings.proofs.Bytes.{below-drop, length-bytes, number-bytes, bytes-number, length-padded, padded-below, padded-add}
+use Rattle.strings.proofs.Bytes.{below-drop, length-bytes, number-bytes, bytes-number, length-padded, padded-below, padded-add, padded-take}
+use Rattle.strings.proofs.Table.{table}
 use Rattle.strings.proofs.Place.{bytes-join, overwrite-nil, overwrite-cons}
 use Rattle.blocks.specs.Inner.{ofWords}
 
 -- Two words side by side.
-abbrev pub pair : ℕ → ℕ → ℕ
+abbrev pair : ℕ → ℕ → ℕ
 pair a b = a * 2 ^ 32 + b
 
 pair-fits : {a b : ℕ} → a < 2 ^ 32 → b < 2 ^ 32 → pair a b < 2 ^ 64
@@ -83,3 +84,13 @@ pub words-written : (at : ℕ) (w s : List ℕ)
     ≡ overwrite at (ofWords w) s
 unfolding ofWords
 words-written at w s = simp (overwrite-back, length-append, length-bytes, add-assoc)
+
+-- Words as arrays of bytes.
+pub bytes-of-words : (w : List ℕ) → table (λ i. getD (bytes 4 (getD w (i / 4) 0)) (i % 4) 0) 16 0 ≡ ofWords w
+unfolding ofWords bytes
+bytes-of-words w = refl
+
+pub words-of-bytes : (s : List ℕ) → OfLength 16 s
+    → ofWords (table (λ c. number (getD s (4 * c) 0 ∷ getD s (4 * c + 1) 0 ∷ getD s (4 * c + 2) 0 ∷ getD s (4 * c + 3) 0 ∷ [])) 4 0) ≡ s
+words-of-bytes s h =
+    rw (four-bytes 0 s, four-bytes 4 s, four-bytes 8 s, four-bytes 12 s) (words-read 0 s (h .1)) ∙ padded-take 16 s (omega (arith, h .0)) ∙ take-all 16 s (omega (arith, h .0))

@@ -1,19 +1,23 @@
--- Horner's rule gives the sum of blocks times powers, in every commutative ring of blocks.
+-- Horner's rule gives the sum of blocks times powers, in every commutative ring of blocks, and takes one block or two at a time.
 -- Assumes nothing.
 use mathlib.Core.Path.{_≡_, sym, ap, _∙_}
 use mathlib.Core.List.{List, [], _∷_}
-use Prim.Native.Nat.{ℕ, zero, suc, _^_, _<_}
-use lib.ListN.{length}
+use Prim.Native.Nat.{ℕ, zero, suc, _+_, _^_, _<_}
+use native.Mathlib.Omega.{arith}
+use lib.ListN.{length, drop, length-drop}
 use lib.Pow.{pow-pos}
+use lib.Seq.{drop-drop}
 use Rattle.strings.specs.Xor.{_⊕_}
 use Rattle.strings.specs.Bytes.{Below}
+use Rattle.blocks.specs.Blocks.{firstBlock, blocks}
 use Rattle.blocks.specs.Field.{power, powerSum, Ring}
 use Rattle.blocks.specs.Inner.{horner}
 use Rattle.strings.proofs.Xor.{xor-assoc, xor-below, xor-zero, xor-zero-left}
+use Rattle.blocks.proofs.Blocks.{blocks-cons}
 
 module _ {k one : ℕ} {_·_ : ℕ → ℕ → ℕ} (ring : Ring k one _·_) where
   infixl 70 _·_
-  pub power-below : (R n : ℕ) → R < 2 ^ k → power one _·_ R n < 2 ^ k
+  power-below : (R n : ℕ) → R < 2 ^ k → power one _·_ R n < 2 ^ k
   unfolding power
   power-below R zero h = ring .one-below
   power-below R (suc n) h = ring .below R (power one _·_ R n) h
@@ -43,3 +47,15 @@ module _ {k one : ℕ} {_·_ : ℕ → ℕ → ℕ} (ring : Ring k one _·_) whe
       let Rⁿ : ℕ = power one _·_ R (length As) in
       horner-from R hR 0 As (pow-pos k) h
       ∙ ap (λ (x : ℕ). x ⊕ powerSum one _·_ R As) (ring .zero-left Rⁿ) ∙ xor-zero-left (powerSum one _·_ R As)
+
+  -- two blocks at once
+  pub two-steps : (R A B : ℕ) → R < 2 ^ k → A < 2 ^ k → (A · R ⊕ B) · R ≡ A · (R · R) ⊕ B · R
+  two-steps R A B hR hA = ring .add-left (A · R) B R ∙ ap (λ (x : ℕ). x ⊕ B · R) (ring .assoc A R R hA hR hR)
+
+module _ (_·_ : ℕ → ℕ → ℕ) where
+  infixl 70 _·_
+  -- One block of a string more.
+  pub horner-next : (R S at : ℕ) (s : List ℕ) → at < length s
+      → horner _·_ R S (blocks (drop at s)) ≡ horner _·_ R ((S ⊕ firstBlock (drop at s)) · R) (blocks (drop (at + 16) s))
+  unfolding horner
+  horner-next R S at s h = rw (blocks-cons (drop at s) (rw length-drop (omega arith)), drop-drop 16 at s)

@@ -1,10 +1,7 @@
 pub mod Blocks
 pub mod Counter
 pub mod Ring
-pub mod Carryless
-pub mod Holes
 pub mod Horner
 pub mod Halves
-pub mod Karatsuba
 pub mod BlockWords
 pub mod Theorems

@@ -14,6 +14,12 @@ pub struct Block {
     pub lo: u64,
 }
 
+// Two blocks, one after the other.
+pub struct Pair {
+    pub first: Block,
+    pub second: Block,
+}
+
 // Whether a string of that length has 16 bytes from place `at` on. That may be any number, for no sum is made that could be too large.
 fn whole(length: usize, at: usize) -> bool
     ensures { λ r. ⌜ (r ≡ true → at + 16 ≤ length) × (r ≡ false → length < at + 16) ⌝ }
@@ -94,6 +100,18 @@ impl Block {
         strings::number::put(out, at, 8, self.hi);
     }
 
+    // Adds it to the 16 bytes from place `at` on, cut where `out` ends.
+    pub fn add_to(self, out: &mut [u8], at: usize)
+        ensures { λ _. ⌜ now (out .exit) ≡ overwrite at (bytes 16 (firstBlock (drop at (now (out .entry))) ⊕ value self)) (now (out .entry)) ⌝ }
+    {
+        if whole(out.len(), at) {
+            let there = Block::from_words(words_at(out, at));
+            put_words(out, at, there.xor(self).to_words());
+            return;
+        }
+        Block::read(out, at).xor(self).write(out, at);
+    }
+
     // Its four words.
     pub fn to_words(self) -> [u32; 4]
         ensures { λ r. ⌜ ofWords r ≡ bytes 16 (value self) ⌝ }
@@ -134,5 +152,22 @@ impl Block {
             hi: self.hi,
             lo: self.lo ^ (n as u64),
         }
+    }
+}
+
+// The first two blocks of a string, as `read` reads them. Where both are whole, they are read with one test for the two.
+pub fn read_two(s: &[u8]) -> Pair
+    ensures { λ r. ⌜ value (r .first) ≡ firstBlock (now (s .entry)) ⌝ }
+    ensures { λ r. ⌜ value (r .second) ≡ firstBlock (drop 16 (now (s .entry))) ⌝ }
+{
+    if s.len() < 32 {
+        return Pair {
+            first: Block::read(s, 0),
+            second: Block::read(s, 16),
+        };
+    }
+    Pair {
+        first: Block::from_words(words_at(s, 0)),
+        second: Block::from_words(words_at(s, 16)),
     }
 }

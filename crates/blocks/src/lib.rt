@@ -1,3 +1,3 @@
-// Byte strings as blocks, and products of blocks with no reduction.
+// Byte strings as blocks, and blocks as words.
 pub mod block;
-pub mod unreduced;
+pub mod words;

@@ -9,7 +9,7 @@ ghost use Rattle.blocks.specs.Inner.{value};
 ghost use Rattle.primitives.specs.Inner.{under};
 ghost use Rattle.strings.specs.Call.{numberOf, looksAt, leftBy};
 ghost use Rattle.hch.specs.Hch.{lengthBlock, behindFirst, H as polynomialHash, encipher, decipher, enciphered, deciphered, hch as scheme};
-ghost use Rattle.hch.specs.Inner.{ctrBytes, fromI};
+ghost use Rattle.hch.specs.Inner.{fromI};
 ghost use Rattle.hch.specs.Call.{tests, answerOf, IsCipher, OnePlaintext};
 use blocks::block::Block;
 use primitives::aes;
@@ -53,20 +53,13 @@ fn hash(r: Block, q: Block, first: Block, message: &[u8]) -> Block
     q.xor(first).xor(field::power_sum(r, &message[16..]))
 }
 
-// Formula (3) on bytes, block by block where they stand, the last cut as it was.
-fn counter(expanded: ExpandedKey, s: Block, message: &mut [u8])
-    ensures { λ _. ⌜ now (message .exit) ≡ ctrBytes (under expanded .E) (value s) (now (message .entry)) ⌝ }
-{
-    expanded.counter(s, message);
-}
-
-// Table II from I on: the counter step on the bytes from 16 on, and the hash of what they are then, in the place of the first block.
+// Table II from I on: formula (3) on the bytes from 16 on, and the hash of what they are then, in the place of the first block.
 fn finish(expanded: ExpandedKey, r: Block, q: Block, i: Block, first: Block, message: &mut [u8])
     requires { ⌜ 16 ≤ length (now message) ⌝ }
     ensures { λ _. ⌜ now (message .exit) ≡ fromI (under expanded .E) powerSum (value r) (value q) (value i) (value first) (behindFirst (now (message .entry))) ⌝ }
 {
     let s = expanded.encipher(i);
-    counter(expanded, s, &mut message[16..]);
+    expanded.counter(s, &mut message[16..]);
     hash(r, q, first, message).write(message, 0);
 }
 

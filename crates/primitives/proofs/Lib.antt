@@ -1,4 +1,3 @@
-pub mod Reduction
 pub mod OnBlocks
 pub mod Inverse
 pub mod Words

@@ -1,22 +1,22 @@
 -- A state by its columns, each a word: its bytes, round keys added to it, and columns mixed by a table.
 -- Assumes nothing.
-use Prim.Native.Nat.{ℕ, _+_, _*_, _/_, _%_, _<_}
+use Prim.Native.Nat.{ℕ, _+_, _*_}
 use mathlib.Core.Path.{_≡_, refl, sym, ap, _∙_}
 use mathlib.Core.List.{List, [], _∷_}
 use lib.ListN.{getD}
 use Rattle.strings.specs.Xor.{_⊕_, xorBytes}
-use Rattle.strings.specs.Bytes.{Bytes, number, bytes}
-use Rattle.primitives.specs.Aes.{State, at, state, _•_, sBox, subBytes, shiftRows, mixed, mixColumns, invMixed, invMixColumns, byteOf, rotWord, addRoundKey, roundKey}
+use Rattle.strings.specs.Bytes.{number, bytes}
+use Rattle.primitives.specs.Aes.{at, state, _•_, sBox, subBytes, shiftRows, mixed, mixColumns, invMixed, invMixColumns, byteOf, rotWord, addRoundKey, roundKey}
 use Rattle.blocks.specs.Inner.{ofWords}
-use Rattle.primitives.specs.Inner.{ofColumns, mixing, MixingTable, columnBy}
+use Rattle.primitives.specs.Inner.{ofColumns, mixing, MixingTable, CipherTable, columnBy}
 use Rattle.strings.proofs.Xor.{xor-laws}
 use Rattle.strings.proofs.Bytes.{bytes-xor}
 use Rattle.strings.proofs.Table.{table}
-use Rattle.primitives.proofs.Words.{byteOf-below, byteOf-xor, rot-bytes, word-bytes}
-use Rattle.primitives.proofs.Rounds.{state-at}
+use Rattle.primitives.proofs.Words.{byteOf-below, byteOf-xor, rot-bytes}
+use Rattle.primitives.proofs.Rounds.{state-is, each, at-below}
 
 -- Four columns are their bytes one after the other.
-columns-words : (w : List ℕ) → ofColumns w ≡ ofWords w
+pub columns-words : (w : List ℕ) → ofColumns w ≡ ofWords w
 unfolding ofColumns ofWords state byteOf bytes
 columns-words w = refl
 
@@ -24,23 +24,6 @@ columns-words w = refl
 pub through-columns : (f : List ℕ → List ℕ) (b r : ℕ) (w x : List ℕ) → ofWords w ≡ bytes 16 b → ofColumns x ≡ f (ofColumns w) → r ≡ number (ofWords x)
     → r ≡ number (f (bytes 16 b))
 through-columns f b r w x ew ex er = er ∙ ap number (sym (columns-words x) ∙ ex ∙ ap f (columns-words w ∙ ew))
-
-pub bytes-of-columns : (w : List ℕ) → table (λ i. getD (bytes 4 (getD w (i / 4) 0)) (i % 4) 0) 16 0 ≡ ofColumns w
-unfolding ofColumns state byteOf
-bytes-of-columns w = refl
-
-pub columns-of-bytes : (s : List ℕ) → State s
-    → ofColumns (table (λ c. number (getD s (4 * c) 0 ∷ getD s (4 * c + 1) 0 ∷ getD s (4 * c + 2) 0 ∷ getD s (4 * c + 3) 0 ∷ [])) 4 0) ≡ s
-unfolding ofWords state at
-columns-of-bytes s h =
-    columns-words _
-    ∙ rw (
-      word-bytes (getD s 0 0) (getD s 1 0) (getD s 2 0) (getD s 3 0) (h .1 0) (h .1 1) (h .1 2) (h .1 3),
-      word-bytes (getD s 4 0) (getD s 5 0) (getD s 6 0) (getD s 7 0) (h .1 4) (h .1 5) (h .1 6) (h .1 7),
-      word-bytes (getD s 8 0) (getD s 9 0) (getD s 10 0) (getD s 11 0) (h .1 8) (h .1 9) (h .1 10) (h .1 11),
-      word-bytes (getD s 12 0) (getD s 13 0) (getD s 14 0) (getD s 15 0) (h .1 12) (h .1 13) (h .1 14) (h .1 15),
-    )
-    (state-at h)
 
 pub key-added : (w words : List ℕ) (n : ℕ)
     → ofColumns (table (λ c. getD w c 0 ⊕ getD words (4 * n + c) 0) 4 0) ≡ addRoundKey (roundKey words n) (ofColumns w)
@@ -79,6 +62,14 @@ module _ {own next second third : ℕ → ℕ} {t : List ℕ} (T : MixingTable o
   mixed-by w =
       columns-words (table (λ c. columnBy t (getD w c 0)) 4 0)
       ∙ rw (column-bytes (getD w 0 0), column-bytes (getD w 1 0), column-bytes (getD w 2 0), column-bytes (getD w 3 0))
+
+-- In the table of Cipher the S-box's byte stands in row 1.
+pub sub-by-table : {t : List ℕ} → CipherTable t → (w : List ℕ) → state (λ r c. byteOf (getD t (at (ofColumns w) r c) 0) 1) ≡ subBytes (ofColumns w)
+unfolding ofColumns subBytes byteOf
+sub-by-table {t} T w =
+    let s = state (λ r c. byteOf (getD w c 0) r) in
+    let bytes-there = at-below s (state-is (λ r c. byteOf (getD w c 0) r) (λ r c. byteOf-below (getD w c 0) r)) in
+    each (λ r c. ap (λ (l : List ℕ). getD l 1 0) (T .entry (at s r c) (bytes-there r c)))
 
 -- The two mixings of AES; rows are shifted before SubBytes as well as after it, since that takes each byte by itself.
 pub sub-mixed : (s : List ℕ) → mixing (λ b. 0x02 • sBox b) (λ b. 0x03 • sBox b) sBox sBox (shiftRows s) ≡ mixColumns (shiftRows (subBytes s))

@@ -27,7 +27,7 @@ pub state-at : {s : List ℕ} → State s → state (at s) ≡ s
 unfolding state at
 state-at {s} h = sym (is-table (λ i. getD s i 0) 16 s (h .0) (λ j l. refl))
 
-each : {f g : ℕ → ℕ → ℕ} → ((r c : ℕ) → f r c ≡ g r c) → state f ≡ state g
+pub each : {f g : ℕ → ℕ → ℕ} → ((r c : ℕ) → f r c ≡ g r c) → state f ≡ state g
 each e = λ i. state (λ r c. e r c i)
 
 abbrev Entries : List ℕ → Type 0

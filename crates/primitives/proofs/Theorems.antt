@@ -1,12 +1,14 @@
 -- Every theorem of specs/Theorems.antt, from the laws beside this file.
 -- Assumes nothing.
 use Rattle.primitives.specs.Theorems.{Theorems}
+use Rattle.polynomials.proofs.Modulo.{product-reduced}
 use Rattle.primitives.proofs.Inverse.{inverse-zero, inverse-product}
 use Rattle.primitives.proofs.Substitution.{sbox-permutation}
 use Rattle.primitives.proofs.Rounds as Rounds
 
 pub theorems : Theorems
 theorems = record {
+  product-reduced = product-reduced;
   inverse-of-byte = inverse-product;
   inverse-of-zero = inverse-zero;
   sbox-permutation = sbox-permutation;

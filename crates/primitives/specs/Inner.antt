@@ -6,7 +6,7 @@ use lib.ListN.{getD}
 use Rattle.strings.specs.Xor.{_⊕_}
 use Rattle.strings.specs.Bytes.{bytes}
 use Rattle.blocks.specs.BlockCipher.{BlockCipher}
-use Rattle.primitives.specs.Aes.{_•_, at, state, byteOf, sBox, rotWord, Nr, encipher, decipher}
+use Rattle.primitives.specs.Aes.{_•_, at, state, byteOf, sBox, invSBox, rotWord, Nr, encipher, decipher}
 use Rattle.primitives.specs.declared.aes.ExpandedKey.{ExpandedKey}
 
 -- The block cipher that an expanded key of the code stands for.
@@ -34,9 +34,13 @@ mixing own next second third s =
 pub record MixingTable (own next second third : ℕ → ℕ) (t : List ℕ) : Type 0 where
   pub entry : (b : ℕ) → b < 256 → bytes 4 (getD t b 0) ≡ own b ∷ third b ∷ second b ∷ next b ∷ []
 
--- The two lists are the tables of Cipher: of MixColumns after SubBytes, and of the S-box.
-abbrev pub CipherTables : List ℕ → List ℕ → Type 0
-CipherTables mixed table = MixingTable (λ b. 0x02 • sBox b) (λ b. 0x03 • sBox b) sBox sBox mixed × Table sBox table
+-- The list t is the table of Cipher: of MixColumns after SubBytes.
+abbrev pub CipherTable : List ℕ → Type 0
+CipherTable = MixingTable (λ b. 0x02 • sBox b) (λ b. 0x03 • sBox b) sBox sBox
+
+-- The lists are the tables of InvCipher: of the inverse S-box, and of InvMixColumns.
+abbrev pub InvCipherTables : List ℕ → List ℕ → Type 0
+InvCipherTables table mixing = Table invSBox table × MixingTable (λ b. 0x0e • b) (λ b. 0x0b • b) (λ b. 0x0d • b) (λ b. 0x09 • b) mixing
 
 -- What the table makes of a column: what is added from a lower row stands as many rows lower.
 unfoldable pub columnBy : List ℕ → ℕ → ℕ

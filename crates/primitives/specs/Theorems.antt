@@ -1,13 +1,17 @@
 -- The theorems of this crate, each by name. One value of this record, proofs/Theorems.antt, proves them all.
-use Prim.Native.Nat.{ℕ, _<_}
+use Prim.Native.Nat.{ℕ, _^_, _<_}
 use mathlib.Core.Path.{_≡_}
 use mathlib.Core.List.{List}
 use Rattle.strings.specs.Cipher.{Permutation}
 use Rattle.blocks.specs.Blocks.{IsBlock}
 use Rattle.blocks.specs.BlockCipher.{BlockPermutation}
+use Rattle.blocks.specs.Field.{product}
+use Rattle.polynomials.specs.Inner.{carryless, reduction}
 use Rattle.primitives.specs.Aes.{Byte, _•_, inverse, sBox, invSBox, State, subBytes, invSubBytes, shiftRows, invShiftRows, mixColumns, invMixColumns, addRoundKey, cipher, invCipher, encipher, decipher, aes}
 
 pub record Theorems : Type 0 where
+  -- The product is the reduction of the carry-less one, for every width and polynomial: the code goes by this.
+  pub product-reduced : (k p : ℕ) → 0 < k → p < 2 ^ k → (a b : ℕ) → a < 2 ^ k → b < 2 ^ k → product k p a b ≡ reduction k p (carryless k a b)
   -- The bytes of AES have inverses: with its ring of bytes, they are a field.
   pub inverse-of-byte : (a : ℕ) → 0 < a → Byte a → a • inverse a ≡ 1
   pub inverse-of-zero : inverse 0 ≡ 0

@@ -1,15 +1,15 @@
 // AES-128 of FIPS 197 on blocks, and counter mode on lent bytes.
-ghost use Prim.Native.Nat.{_+_, _/_, _≤_, _<_};
+ghost use Prim.Native.Nat.{_+_, _-_, _/_, _≤_, _<_};
 ghost use mathlib.Core.Path.{_≡_};
 ghost use mathlib.Core.Bool.{cond};
-ghost use lib.ListN.{replicate, drop};
+ghost use lib.ListN.{getD, replicate, drop};
 ghost use Rattle.strings.specs.Xor.{_⊕_};
 ghost use Rattle.strings.specs.Bytes.{bytes};
 ghost use Rattle.strings.specs.Inner.{overwrite};
 ghost use Rattle.blocks.specs.Blocks.{bin, firstBlock};
 ghost use Rattle.blocks.specs.Counter.{maskedBytes};
 ghost use Rattle.blocks.specs.Inner.{value};
-ghost use Rattle.primitives.specs.Inner.{Table, CipherTables, ofColumns};
+ghost use Rattle.primitives.specs.Inner.{Table, CipherTable, InvCipherTables, ofColumns};
 ghost use Rattle.primitives.specs.Aes.{sBox, rotWord, subWord, rcon, temp, keyWord, Nr, keyExpansion, roundKey, cipher, invCipher, encipher, decipher, isKey};
 use crate::inv_mixing;
 use crate::inv_sbox;
@@ -66,15 +66,15 @@ fn temp(table: &state::Table, i: usize, before: u32) -> u32
     sub_rot_word(table, before) ^ round_constant(i / 4 - 1)
 }
 
-// Word i of the expanded key, from those before it.
-fn key_word(key: &[u8], table: &state::Table, words: &state::Words, i: usize) -> u32
-    requires { ⌜ Table sBox (now table) × (i < 44) ⌝ }
+// Word i of the expanded key, from those before it. The last of them is handed over too: it would have to be stored before it is read again.
+fn key_word(key: &[u8], table: &state::Table, words: &state::Words, i: usize, before: u32) -> u32
+    requires { ⌜ Table sBox (now table) × (i < 44) × (before ≡ getD (now words) (i - 1) 0) ⌝ }
     ensures { λ r. ⌜ r ≡ keyWord 4 (now (key .entry)) i (now (words .entry)) ⌝ }
 {
     if i < 4 {
         return number::get(key, 4 * i, 4) as u32;
     }
-    words[i - 4] ^ temp(table, i, words[i - 1])
+    words[i - 4] ^ temp(table, i, before)
 }
 
 // KeyExpansion, 5.2.
@@ -83,8 +83,9 @@ fn key_expansion(key: &[u8]) -> state::Words
 {
     let table = sbox::table();
     let mut words = [0u32; 44];
+    let mut w = 0;
     for i in 0..44usize {
-        let w = key_word(key, &table, &words, i);
+        w = key_word(key, &table, &words, i, w);
         words[i] = w;
     }
     words
@@ -97,14 +98,9 @@ pub fn is_key(key: &[u8]) -> bool
     key.len() == 16
 }
 
-// Cipher, 5.1, by the tables that are lent.
-fn cipher(
-    mixed: &state::Mixing,
-    table: &state::Table,
-    words: &state::Words,
-    w: state::Columns,
-) -> state::Columns
-    requires { ⌜ CipherTables (now mixed) (now table) ⌝ }
+// Cipher, 5.1, by the table that is lent.
+fn cipher(mixed: &state::Mixing, words: &state::Words, w: state::Columns) -> state::Columns
+    requires { ⌜ CipherTable (now mixed) ⌝ }
     ensures { λ x. ⌜ ofColumns x ≡ cipher (roundKey (now (words .entry))) (Nr 4) (ofColumns w) ⌝ }
 {
     let mut t = state::add_round_key(words, 0, w);
@@ -112,50 +108,41 @@ fn cipher(
         let next = state::round(mixed, words, n, t);
         t = next;
     }
-    state::last_round(table, words, state::ROUNDS, t)
+    state::last_round(mixed, words, state::ROUNDS, t)
 }
 
-// E of a block, by the tables that are lent.
-fn encipher_by(
-    mixed: &state::Mixing,
-    table: &state::Table,
-    words: &state::Words,
-    block: Block,
-) -> Block
-    requires { ⌜ CipherTables (now mixed) (now table) ⌝ }
+// E of a block, by the table that is lent.
+fn encipher_by(mixed: &state::Mixing, words: &state::Words, block: Block) -> Block
+    requires { ⌜ CipherTable (now mixed) ⌝ }
     ensures { λ r. ⌜ value r ≡ encipher (Nr 4) (now (words .entry)) (value block) ⌝ }
 {
-    Block::from_words(cipher(mixed, table, words, block.to_words()))
+    Block::from_words(cipher(mixed, words, block.to_words()))
 }
 
 // Adds E(s ⊕ bin(at / 16 + 1)) to the block at `at`, cut where `message` ends.
-fn mask_block(
-    mixed: &state::Mixing,
-    table: &state::Table,
-    words: &state::Words,
-    s: Block,
-    message: &mut [u8],
-    at: usize,
-)
-    requires { ⌜ CipherTables (now mixed) (now table) ⌝ }
+fn mask_block(mixed: &state::Mixing, words: &state::Words, s: Block, message: &mut [u8], at: usize)
+    requires { ⌜ CipherTable (now mixed) ⌝ }
     ensures { λ _. ⌜ now (message .exit) ≡ overwrite at (bytes 16 (firstBlock (drop at (now (message .entry))) ⊕ encipher (Nr 4) (now (words .entry)) (value s ⊕ bin (at / 16 + 1)))) (now (message .entry)) ⌝ }
 {
-    let mask = encipher_by(mixed, table, words, s.xor_bin(at / 16 + 1));
-    Block::read(message, at).xor(mask).write(message, at);
+    encipher_by(mixed, words, s.xor_bin(at / 16 + 1)).add_to(message, at);
 }
 
-// InvCipher, 5.3: the round keys backwards.
-fn inv_cipher(words: &state::Words, w: state::Columns) -> state::Columns
+// InvCipher, 5.3, by the tables that are lent: the round keys backwards.
+fn inv_cipher(
+    table: &state::Table,
+    mixing: &state::Mixing,
+    words: &state::Words,
+    w: state::Columns,
+) -> state::Columns
+    requires { ⌜ InvCipherTables (now table) (now mixing) ⌝ }
     ensures { λ x. ⌜ ofColumns x ≡ invCipher (roundKey (now (words .entry))) (Nr 4) (ofColumns w) ⌝ }
 {
-    let table = inv_sbox::table();
-    let mixing = inv_mixing::table();
     let mut t = state::add_round_key(words, state::ROUNDS, w);
     for j in 1..state::ROUNDS {
-        let next = state::inv_round(&table, &mixing, words, state::ROUNDS - j, t);
+        let next = state::inv_round(table, mixing, words, state::ROUNDS - j, t);
         t = next;
     }
-    state::inv_last_round(&table, words, 0, t)
+    state::inv_last_round(table, words, 0, t)
 }
 
 impl ExpandedKey {
@@ -181,22 +168,20 @@ impl ExpandedKey {
         ensures { λ r. ⌜ value r ≡ encipher (Nr 4) (self .words) (value block) ⌝ }
     {
         let mixed = mixed_sbox::table();
-        let table = sbox::table();
         let words = self.words;
-        encipher_by(&mixed, &table, &words, block)
+        encipher_by(&mixed, &words, block)
     }
 
     // Counter mode on lent bytes, block by block where they stand, the last cut as it was: E(s ⊕ bin(i)) is added to block i, from 1 on. The
-    // tables are stored once.
+    // table is stored once.
     pub fn counter(self, s: Block, message: &mut [u8])
         ensures { λ _. ⌜ now (message .exit) ≡ maskedBytes (λ i. encipher (Nr 4) (self .words) (value s ⊕ bin i)) 1 (now (message .entry)) ⌝ }
     {
         let mixed = mixed_sbox::table();
-        let table = sbox::table();
         let words = self.words;
         let mut at = 0;
         while at < message.len() {
-            mask_block(&mixed, &table, &words, s, message, at);
+            mask_block(&mixed, &words, s, message, at);
             at += 16;
         }
     }
@@ -205,7 +190,9 @@ impl ExpandedKey {
     pub fn decipher(self, block: Block) -> Block
         ensures { λ r. ⌜ value r ≡ decipher (Nr 4) (self .words) (value block) ⌝ }
     {
+        let table = inv_sbox::table();
+        let mixing = inv_mixing::table();
         let words = self.words;
-        Block::from_words(inv_cipher(&words, block.to_words()))
+        Block::from_words(inv_cipher(&table, &mixing, &words, block.to_words()))
     }
 }

@@ -1,7 +1,6 @@
 // MixColumns of the S-box, FIPS 197, 5.1.1 and 5.1.3: for each byte the column that its entry adds from row 0, 02, 01, 01 and 03 times
 // that entry. Handed out whole, as the S-box is.
-ghost use Rattle.primitives.specs.Inner.{MixingTable};
-ghost use Rattle.primitives.specs.Aes.{_•_, sBox};
+ghost use Rattle.primitives.specs.Inner.{CipherTable};
 use crate::state;
 
 const MIXED_SBOX: [u32; 256] = [
@@ -264,7 +263,7 @@ const MIXED_SBOX: [u32; 256] = [
 ];
 
 pub(crate) fn table() -> state::Mixing
-    ensures { λ t. ⌜ MixingTable (λ b. 0x02 • sBox b) (λ b. 0x03 • sBox b) sBox sBox t ⌝ }
+    ensures { λ t. ⌜ CipherTable t ⌝ }
 {
     MIXED_SBOX
 }

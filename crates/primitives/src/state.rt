@@ -3,8 +3,9 @@
 ghost use Prim.Native.Nat.{_≤_};
 ghost use mathlib.Core.Path.{_≡_};
 ghost use lib.ListN.{getD};
-ghost use Rattle.primitives.specs.Aes.{_•_, sBox, invSBox, shiftRows, addRoundKey, invShiftRows, rotWord, round, lastRound, invRound, invLastRound, Nr, roundKey};
-ghost use Rattle.primitives.specs.Inner.{Table, MixingTable, Substituted, ofColumns, columnBy, MixedBy};
+ghost use Rattle.primitives.specs.Aes.{at, state, invSBox, byteOf, shiftRows, addRoundKey, invShiftRows, rotWord, round, lastRound, invRound, invLastRound, Nr, roundKey};
+ghost use Rattle.primitives.specs.Inner.{Table, CipherTable, InvCipherTables, Substituted, ofColumns, columnBy, MixedBy};
+use blocks::words;
 use strings::number;
 use strings::places;
 
@@ -22,30 +23,8 @@ pub(crate) type Mixing = [u32; 256];
 // The number of rounds that a key of 16 bytes gets.
 pub(crate) const ROUNDS: usize = 10;
 
-// The bytes of four columns.
-fn bytes_of(w: Columns) -> State
-    ensures { λ x. ⌜ x ≡ ofColumns w ⌝ }
-{
-    let mut t = [0u8; 16];
-    for i in 0..16usize {
-        t[i] = number::byte(w[i / 4], i);
-    }
-    t
-}
-
-// The columns of 16 bytes.
-fn columns_of(s: State) -> Columns
-    ensures { λ x. ⌜ ofColumns x ≡ s ⌝ }
-{
-    let mut t = [0u32; 4];
-    for c in 0..4usize {
-        t[c] = number::word(s[4 * c], s[4 * c + 1], s[4 * c + 2], s[4 * c + 3]);
-    }
-    t
-}
-
-// SubBytes, or its inverse, by the S-box that is lent.
-fn sub_bytes(table: &Table, s: State) -> State
+// The inverse of SubBytes, by the inverse S-box that is lent.
+fn inv_sub_bytes(table: &Table, s: State) -> State
     ensures { λ x. ⌜ Substituted (now (table .entry)) s x ⌝ }
 {
     let mut t = [0u8; 16];
@@ -78,6 +57,17 @@ fn added(table: &Mixing, b: u8) -> u32
     ensures { λ r. ⌜ r ≡ getD (now (table .entry)) b 0 ⌝ }
 {
     table[b as usize]
+}
+
+// The bytes of row 1 of the columns that the bytes add. In the table of Cipher these are the S-box's, so that this is SubBytes.
+fn sub_bytes(table: &Mixing, s: State) -> State
+    ensures { λ x. ⌜ x ≡ state (λ r c. byteOf (getD (now (table .entry)) (at s r c) 0) 1) ⌝ }
+{
+    let mut t = [0u8; 16];
+    for i in 0..16usize {
+        t[i] = number::byte(added(table, s[i]), 1);
+    }
+    t
 }
 
 // RotWord, 5.2.
@@ -121,25 +111,25 @@ pub(crate) fn add_round_key(words: &Words, n: usize, w: Columns) -> Columns
 
 // Round n. The rows are shifted first, since SubBytes takes each byte by itself.
 pub(crate) fn round(table: &Mixing, words: &Words, n: usize, w: Columns) -> Columns
-    requires { ⌜ MixingTable (λ b. 0x02 • sBox b) (λ b. 0x03 • sBox b) sBox sBox (now table) × (n ≤ Nr 4) ⌝ }
+    requires { ⌜ CipherTable (now table) × (n ≤ Nr 4) ⌝ }
     ensures { λ x. ⌜ ofColumns x ≡ round (roundKey (now (words .entry))) n (ofColumns w) ⌝ }
 {
     add_round_key(
         words,
         n,
-        mix_columns(table, columns_of(shift_rows(bytes_of(w)))),
+        mix_columns(table, words::from_bytes(shift_rows(words::to_bytes(w)))),
     )
 }
 
 // The last round has no mixing.
-pub(crate) fn last_round(table: &Table, words: &Words, n: usize, w: Columns) -> Columns
-    requires { ⌜ Table sBox (now table) × (n ≤ Nr 4) ⌝ }
+pub(crate) fn last_round(table: &Mixing, words: &Words, n: usize, w: Columns) -> Columns
+    requires { ⌜ CipherTable (now table) × (n ≤ Nr 4) ⌝ }
     ensures { λ x. ⌜ ofColumns x ≡ lastRound (roundKey (now (words .entry))) n (ofColumns w) ⌝ }
 {
     add_round_key(
         words,
         n,
-        columns_of(shift_rows(sub_bytes(table, bytes_of(w)))),
+        words::from_bytes(shift_rows(sub_bytes(table, words::to_bytes(w)))),
     )
 }
 
@@ -151,7 +141,7 @@ pub(crate) fn inv_last_round(table: &Table, words: &Words, n: usize, w: Columns)
     add_round_key(
         words,
         n,
-        columns_of(sub_bytes(table, inv_shift_rows(bytes_of(w)))),
+        words::from_bytes(inv_sub_bytes(table, inv_shift_rows(words::to_bytes(w)))),
     )
 }
 
@@ -163,7 +153,7 @@ pub(crate) fn inv_round(
     n: usize,
     w: Columns,
 ) -> Columns
-    requires { ⌜ Table invSBox (now table) × MixingTable (λ b. 0x0e • b) (λ b. 0x0b • b) (λ b. 0x0d • b) (λ b. 0x09 • b) (now mixing) × (n ≤ Nr 4) ⌝ }
+    requires { ⌜ InvCipherTables (now table) (now mixing) × (n ≤ Nr 4) ⌝ }
     ensures { λ x. ⌜ ofColumns x ≡ invRound (roundKey (now (words .entry))) n (ofColumns w) ⌝ }
 {
     mix_columns(mixing, inv_last_round(table, words, n, w))

@@ -5,6 +5,7 @@ use denote.Ref.{now}
 use Rattle.blocks.specs.BlockField.{powerSum}
 use Rattle.blocks.specs.Inner.{value}
 use Rattle.primitives.specs.Inner.{under}
+use Rattle.hch.specs.Inner.{ctrBytes}
 use Rattle.hch.proofs.LentBytes.{finished}
 use Rattle.hch.proofs.finish.Statement.{statement}
 use Rattle.hch.proofs.finish.Tie as tie
@@ -34,6 +35,7 @@ same-length : tie.Need-same-length
 same-length c = search needs
 
 returns : tie.Need-returns
+unfolding ctrBytes
 returns c =
     let w = c .before .before in
     let h = w .before .before in

@@ -1,4 +1,5 @@
 -- The measure is the number of turns that are left, and both buffers keep their lengths.
+-- Assumes nothing.
 use borrow.Author.Needs.{needs}
 use mathlib.Core.Path.{_≡_, refl}
 use native.Mathlib.Omega.{arith}

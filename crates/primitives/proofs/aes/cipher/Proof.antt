@@ -19,11 +19,11 @@ turn k n p t x l e r =
     rw (m, q, ← e) r
 
 abbrev Inv-loop : tie.InvT-loop
-Inv-loop mixed table words t₀ n₀ t n =
+Inv-loop mixed words t₀ n₀ t n =
     (1 ≤ n) × (n ≤ Nr 4) × ((p : List ℕ) → ofColumns t₀ ≡ rounds (roundKey words) 0 p → ofColumns t ≡ rounds (roundKey words) (n - 1) p)
 
 abbrev μ-loop : tie.MeasureT-loop
-μ-loop mixed table words t₀ n₀ t n = Nr 4 - n
+μ-loop mixed words t₀ n₀ t n = Nr 4 - n
 
 add-round-key-requires : tie.Need-add-round-key-requires Inv-loop μ-loop
 add-round-key-requires c κs = search needs

@@ -18,17 +18,11 @@ turn k N j t x l r =
     rw (r, e)
 
 abbrev Inv-loop : tie.InvT-loop
-Inv-loop words table mixing t₀ j₀ t j =
+Inv-loop table mixing words t₀ j₀ t j =
     (1 ≤ j) × (j ≤ Nr 4) × (invRounds (roundKey words) (Nr 4 - j) (ofColumns t) ≡ invRounds (roundKey words) (Nr 4 - 1) (ofColumns t₀))
 
 abbrev μ-loop : tie.MeasureT-loop
-μ-loop words table mixing t₀ j₀ t j = Nr 4 - j
-
-table-requires : tie.Need-table-requires Inv-loop μ-loop
-table-requires c κs = search needs
-
-table-requires-2 : tie.Need-table-requires-2 Inv-loop μ-loop
-table-requires-2 c κs = search needs
+μ-loop table mixing words t₀ j₀ t j = Nr 4 - j
 
 add-round-key-requires : tie.Need-add-round-key-requires Inv-loop μ-loop
 add-round-key-requires c κs = search needs
@@ -50,8 +44,8 @@ loop-less c = search needs
 
 loop-again : tie.Need-loop-again Inv-loop μ-loop
 loop-again c =
-    let l = c .before .before .before .before .loop in
-    let k = roundKey (now (c .before .before .before .before .before .before .before .before .args .words)) in
+    let l = c .before .before .loop in
+    let k = roundKey (now (c .before .before .before .before .args .words)) in
     (omega arith, omega arith, turn k (Nr 4) (l .j) (ofColumns (l .t)) (ofColumns (c .inv-round .result)) (omega arith) (c .inv-round .ensures) ∙ l .inv .2)
 
 inv-last-round-requires : tie.Need-inv-last-round-requires Inv-loop μ-loop
@@ -60,10 +54,10 @@ inv-last-round-requires c κs = search needs
 returns : tie.Need-returns Inv-loop μ-loop
 unfolding invRounds invCipher
 returns c =
-    let l = c .before .before .before .loop in
-    let k = roundKey (now (c .before .before .before .before .before .before .before .args .words)) in
+    let l = c .before .before .loop in
+    let k = roundKey (now (c .before .before .before .before .args .words)) in
     let none : Nr 4 - l .j ≡ 0 = omega arith in
-    c .inv-last-round .ensures ∙ (rw none at (l .inv .2)) ∙ ap (invRounds k (Nr 4 - 1)) (c .before .before .before .before .add-round-key .ensures)
+    c .inv-last-round .ensures ∙ (rw none at (l .inv .2)) ∙ ap (invRounds k (Nr 4 - 1)) (c .before .before .before .add-round-key .ensures)
 
 pub inv-cipher-spec : {M : Type 1} → statement M
 inv-cipher-spec =
@@ -71,8 +65,6 @@ inv-cipher-spec =
     (tie.spec
     Inv-loop
     μ-loop
-    table-requires
-    table-requires-2
     add-round-key-requires
     loop-holds
     sub-inv-round

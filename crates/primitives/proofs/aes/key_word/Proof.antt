@@ -34,23 +34,15 @@ mul-result c = search needs
 element-copy-out-result : tie.Need-element-copy-out-result
 element-copy-out-result c = search needs
 
-sub-temp : tie.Need-sub-temp
-sub-temp c = search needs
-
-mul-temp : tie.Need-mul-temp
-mul-temp c = search needs
-
-element-copy-out-temp : tie.Need-element-copy-out-temp
-element-copy-out-temp c = search needs
-
 temp-requires : tie.Need-temp-requires
 temp-requires c κs = search needs
 
 returns-2 : tie.Need-returns-2
 unfolding _⊕_
 returns-2 c =
-    let a = c .before .before .before .before .before .args in
-    rw (c .temp .ensures, next-word 4 (now (a .key)) (a .i) (now (a .words)) (omega arith))
+    let start = c .before .before .before .before in
+    let a = start .args in
+    rw (c .temp .ensures, start .pre .2, next-word 4 (now (a .key)) (a .i) (now (a .words)) (omega arith))
 
 pub key-word-spec : {M : Type 1} → statement M
 key-word-spec =
@@ -62,8 +54,5 @@ key-word-spec =
     returns
     mul-result
     element-copy-out-result
-    sub-temp
-    mul-temp
-    element-copy-out-temp
     temp-requires
     returns-2)

@@ -1,4 +1,4 @@
--- The block that is read, the mask that is added, and where the sum is written.
+-- The mask, and where it is added.
 -- Assumes nothing.
 use borrow.Author.Needs.{needs}
 use Rattle.primitives.proofs.aes.mask_block.Statement.{statement}
@@ -13,40 +13,18 @@ xor-bin-requires c κs = search needs
 encipher-by-requires : tie.Need-encipher-by-requires
 encipher-by-requires c κs = search needs
 
-read-requires : tie.Need-read-requires
-read-requires c κs = search needs
-
-xor-requires : tie.Need-xor-requires
-xor-requires c κs = search needs
-
-write-requires : tie.Need-write-requires
-write-requires c κs = search needs
+add-to-requires : tie.Need-add-to-requires
+add-to-requires c κs = search needs
 
 same-length : tie.Need-same-length
 same-length c = search needs
 
 returns : tie.Need-returns
 returns c =
-    let written = c .before .before in
-    let added = written .before .before in
-    let enciphered = added .before .before .before in
-    rw (
-      written .write .ensures,
-      added .xor .ensures,
-      added .before .read .ensures,
-      enciphered .encipher-by .ensures,
-      enciphered .before .xor-bin .ensures,
-    )
+    let added = c .before .before in
+    let enciphered = added .before .before in
+    rw (added .add-to .ensures, enciphered .encipher-by .ensures, enciphered .before .xor-bin .ensures)
 
 pub mask-block-spec : {M : Type 1} → statement M
 mask-block-spec =
-    tie.close
-    (tie.spec
-    add-xor-bin
-    xor-bin-requires
-    encipher-by-requires
-    read-requires
-    xor-requires
-    write-requires
-    same-length
-    returns)
+    tie.close (tie.spec add-xor-bin xor-bin-requires encipher-by-requires add-to-requires same-length returns)

@@ -1,28 +1,22 @@
--- What Horner's rule makes of the sum so far and of the blocks from `at` on is what it makes of all of them.
+-- The blocks behind the pairs, one by one: what Horner's rule makes of the sum so far and of the blocks from `at` on is what it makes of all of them.
 -- Assumes nothing.
-use mathlib.Core.Path.{_≡_, refl, sym, ap, _∙_}
-use mathlib.Core.List.{List, []}
-use Prim.Native.Nat.{ℕ, _+_, _-_, _<_}
+use mathlib.Core.Path.{_≡_, sym, ap, _∙_}
+use mathlib.Core.List.{[]}
+use Prim.Native.Nat.{ℕ, _-_}
 use native.Mathlib.Omega.{arith}
 use borrow.Author.Needs.{needs}
 use denote.Ref.{now}
-use lib.ListN.{length, drop, length-drop, drop-of-length-le}
-use lib.Seq.{drop-drop}
+use lib.ListN.{length, drop, drop-of-length-le}
 use Rattle.strings.specs.Xor.{_⊕_}
 use Rattle.blocks.specs.Blocks.{firstBlock, blocks}
 use Rattle.blocks.specs.BlockField.{_·_}
 use Rattle.blocks.specs.Inner.{horner, value}
-use Rattle.blocks.proofs.Blocks.{blocks-nil, blocks-cons, blocks-below}
+use Rattle.blocks.proofs.Blocks.{blocks-nil, blocks-below}
 use Rattle.blocks.proofs.Halves.{value-below}
-use Rattle.blocks.proofs.Horner.{horner-rule}
+use Rattle.blocks.proofs.Horner.{horner-next, horner-rule}
 use Rattle.blocks.proofs.Ring.{ring-of-blocks}
 use Rattle.primitives.proofs.field.power_sum.Statement.{statement}
 use Rattle.primitives.proofs.field.power_sum.Tie as tie
-
--- one block more
-next : (R S at : ℕ) (s : List ℕ) → at < length s → horner _·_ R S (blocks (drop at s)) ≡ horner _·_ R ((S ⊕ firstBlock (drop at s)) · R) (blocks (drop (at + 16) s))
-unfolding horner
-next R S at s h = rw (blocks-cons (drop at s) (rw length-drop (omega arith)), drop-drop 16 at s)
 
 abbrev Inv-loop : tie.InvT-loop
 Inv-loop r s sum₀ at₀ sum at = horner _·_ (value r) (value sum) (blocks (drop at s)) ≡ horner _·_ (value r) 0 (blocks s)
@@ -30,9 +24,14 @@ Inv-loop r s sum₀ at₀ sum at = horner _·_ (value r) (value sum) (blocks (dr
 abbrev μ-loop : tie.MeasureT-loop
 μ-loop r s sum₀ at₀ sum at = length s - at
 
+pairs-requires : tie.Need-pairs-requires Inv-loop μ-loop
+pairs-requires c κs = search needs
+
+sub-at : tie.Need-sub-at Inv-loop μ-loop
+sub-at c = search needs
+
 loop-holds : tie.Need-loop-holds Inv-loop μ-loop
-unfolding value
-loop-holds c = refl
+loop-holds c = c .pairs .ensures
 
 read-requires : tie.Need-read-requires Inv-loop μ-loop
 read-requires c κs = search needs
@@ -52,22 +51,22 @@ loop-less c = omega arith
 loop-again : tie.Need-loop-again Inv-loop μ-loop
 loop-again c =
     let l = c .before .before .before .before .loop in
-    let args = c .before .before .before .before .before .before .args in
+    let args = c .before .before .before .before .before .before .before .args in
     let R : ℕ = value (args .r) in
     let turn : value (c .product .result) ≡ (value (l .sum) ⊕ firstBlock (drop (l .at) (now (args .s)))) · R =
     c .product .ensures ∙ ap (λ (x : ℕ). x · R) (c .before .xor .ensures ∙ ap (λ (x : ℕ). value (l .sum) ⊕ x) (c .before .before .read .ensures)) in
-    rw turn (sym (next R (value (l .sum)) (l .at) (now (args .s)) (c .before .before .before .loop-test .taken)) ∙ l .inv)
+    rw turn (sym (horner-next _·_ R (value (l .sum)) (l .at) (now (args .s)) (c .before .before .before .loop-test .taken)) ∙ l .inv)
 
 returns : tie.Need-returns Inv-loop μ-loop
 unfolding horner
 returns c =
-    let args = c .before .before .before .args in
+    let args = c .before .before .before .before .args in
     let s = now (args .s) in
     let R = value (args .r) in
     let done : blocks (drop (c .before .loop .at) s) ≡ [] = rw (drop-of-length-le s (c .loop-test .left)) blocks-nil in
     (rw done at (c .before .loop .inv))
     ∙ horner-rule ring-of-blocks R (value-below (args .r) (search needs) (search needs)) (blocks s)
-    (blocks-below s (λ i. c .before .before .shared-slice-known .given i .fits))
+    (blocks-below s (λ i. c .before .before .before .shared-slice-known .given i .fits))
 
 pub power-sum-spec : {M : Type 1} → statement M
 power-sum-spec =
@@ -75,6 +74,8 @@ power-sum-spec =
     (tie.spec
     Inv-loop
     μ-loop
+    pairs-requires
+    sub-at
     loop-holds
     read-requires
     xor-requires

@@ -1,23 +1,24 @@
 -- Without the mixing.
 -- Assumes nothing.
-use mathlib.Core.Path.{ap, _∙_}
+use mathlib.Core.Path.{sym, ap, _∙_}
 use denote.Ref.{now}
 use Rattle.primitives.specs.Aes.{invSBox, invSubBytes, invShiftRows, addRoundKey, roundKey}
+use Rattle.primitives.proofs.Mixing.{columns-words}
 use borrow.Author.Needs.{needs}
 use Rattle.primitives.proofs.state.inv_last_round.Statement.{statement}
 use Rattle.primitives.proofs.state.inv_last_round.Tie as tie
 
-bytes-of-requires : tie.Need-bytes-of-requires
-bytes-of-requires c κs = search needs
+to-bytes-requires : tie.Need-to-bytes-requires
+to-bytes-requires c κs = search needs
 
 inv-shift-rows-requires : tie.Need-inv-shift-rows-requires
 inv-shift-rows-requires c κs = search needs
 
-sub-bytes-requires : tie.Need-sub-bytes-requires
-sub-bytes-requires c κs = search needs
+inv-sub-bytes-requires : tie.Need-inv-sub-bytes-requires
+inv-sub-bytes-requires c κs = search needs
 
-columns-of-requires : tie.Need-columns-of-requires
-columns-of-requires c κs = search needs
+from-bytes-requires : tie.Need-from-bytes-requires
+from-bytes-requires c κs = search needs
 
 add-round-key-requires : tie.Need-add-round-key-requires
 add-round-key-requires c κs = search needs
@@ -28,16 +29,16 @@ returns c =
     let a = c .before .before .before .before .before .args in
     c .add-round-key .ensures
     ∙ ap (addRoundKey (roundKey (now (a .words)) (a .n)))
-    (c .before .columns-of .ensures ∙ c .before .before .sub-bytes .ensures invSBox (c .before .before .before .before .before .pre .0)
-    ∙ ap invSubBytes (c .before .before .before .inv-shift-rows .ensures ∙ ap invShiftRows (c .before .before .before .before .bytes-of .ensures)))
+    (columns-words (c .before .from-bytes .result) ∙ c .before .from-bytes .ensures ∙ c .before .before .inv-sub-bytes .ensures invSBox (c .before .before .before .before .before .pre .0)
+    ∙ ap invSubBytes (c .before .before .before .inv-shift-rows .ensures ∙ ap invShiftRows (c .before .before .before .before .to-bytes .ensures ∙ sym (columns-words (a .w)))))
 
 pub inv-last-round-spec : {M : Type 1} → statement M
 inv-last-round-spec =
     tie.close
     (tie.spec
-    bytes-of-requires
+    to-bytes-requires
     inv-shift-rows-requires
-    sub-bytes-requires
-    columns-of-requires
+    inv-sub-bytes-requires
+    from-bytes-requires
     add-round-key-requires
     returns)

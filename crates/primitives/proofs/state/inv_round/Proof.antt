@@ -15,7 +15,7 @@ mix-columns-requires c κs = search needs
 
 returns : tie.Need-returns
 returns c =
-    c .mix-columns .ensures (λ b. 0x0e • b) (λ b. 0x0b • b) (λ b. 0x0d • b) (λ b. 0x09 • b) (c .before .before .pre .1) ∙ inv-mixed _
+    c .mix-columns .ensures (λ b. 0x0e • b) (λ b. 0x0b • b) (λ b. 0x0d • b) (λ b. 0x09 • b) (c .before .before .pre .0 .1) ∙ inv-mixed _
     ∙ ap invMixColumns (c .before .inv-last-round .ensures)
 
 pub inv-round-spec : {M : Type 1} → statement M

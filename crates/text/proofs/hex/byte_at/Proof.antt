@@ -1,4 +1,5 @@
 -- `text::hex::byte_at` meets its contract: the values of two digits are below 16, so their byte is below 256.
+-- Assumes nothing.
 use native.Mathlib.Omega.{arith}
 use Rattle.text.proofs.hex.byte_at.Statement.{statement}
 use Rattle.text.proofs.hex.byte_at.Tie as tie

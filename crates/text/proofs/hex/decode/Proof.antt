@@ -1,5 +1,6 @@
 -- `text::hex::decode` meets its contract. The invariant: the text is hexadecimal, and the bytes of its first 2 * i characters stand in front of
 -- what `out` had from place i on. The measure is what is left of the n bytes.
+-- Assumes nothing.
 use mathlib.Core.Path.{_≡_, refl, sym, _∙_}
 use mathlib.Core.Bool.{true, false, and-false}
 use mathlib.Core.List.{_++_}

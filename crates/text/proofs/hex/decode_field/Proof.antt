@@ -1,4 +1,5 @@
 -- `text::hex::decode_field` meets its contract: what `decode` is lent is the part in front of the first `end`.
+-- Assumes nothing.
 use borrow.Author.Needs.{needs}
 use mathlib.Core.Path.{_≡_, refl}
 use Prim.Native.Nat.{_-_}

@@ -1,4 +1,5 @@
 -- `text::hex::digit_of` meets its contract: its test is that of `digit`.
+-- Assumes nothing.
 use borrow.Author.Needs.{needs}
 use borrow.Author.Tests.{lt-ltb, le-ltb}
 use Rattle.text.specs.Hex.{digit}

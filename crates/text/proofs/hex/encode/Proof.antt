@@ -1,5 +1,6 @@
 -- `text::hex::encode` meets its contract. The invariant: the digits of the first i bytes stand in front of what `out` had from place 2 * i on.
 -- The measure is what is left of the n bytes.
+-- Assumes nothing.
 use mathlib.Core.Path.{_≡_, refl}
 use mathlib.Core.List.{_++_}
 use Prim.Native.Nat.{ℕ, _+_, _-_, _*_, _/_, _%_, _≤_, _<_, min}

@@ -1,4 +1,5 @@
 -- `text::hex::is_digit` meets its contract: the test that is left says which half of `isDigit` decides.
+-- Assumes nothing.
 use borrow.Author.Tests.{lt-leb, le-leb}
 use mathlib.Core.Bool.{or-false}
 use native.Mathlib.Omega.{arith}

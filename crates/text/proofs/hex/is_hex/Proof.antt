@@ -1,5 +1,6 @@
 -- `text::hex::is_hex` meets its contract. The invariant: the text has an even length, and is all digits exactly if it is so from i on.
 -- The measure is what is left of the text.
+-- Assumes nothing.
 use mathlib.Core.Path.{_≡_, refl, sym, _∙_}
 use mathlib.Core.Bool.{true, false}
 use Prim.Native.Nat.{_-_, _%_}

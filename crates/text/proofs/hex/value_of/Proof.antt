@@ -1,4 +1,5 @@
 -- `text::hex::value_of` meets its contract: a digit is a decimal one or a letter (`cases`), and its test is that of `value`.
+-- Assumes nothing.
 use borrow.Author.Needs.{needs}
 use borrow.Author.Tests.{le-leb, lt-leb}
 use mathlib.Core.Path.{_≡_, sym}

@@ -1,4 +1,5 @@
 -- The halves are summed apart.
+-- Assumes nothing.
 use mathlib.Core.Path.{sym}
 use borrow.Author.Needs.{needs}
 use Rattle.strings.specs.Xor.{_⊕_}

@@ -18,19 +18,16 @@ use Rattle.primitives.proofs.aes.ExpandedKey.counter.Statement.{stateme
 use Rattle.primitives.proofs.aes.ExpandedKey.counter.Tie as tie
 
 abbrev Inv-loop : tie.InvT-loop
-Inv-loop S message₀ mixed table words at₀ s at =
+Inv-loop S message₀ mixed words at₀ s at =
     (take at s ++ maskedBytes (λ i. encipher (Nr 4) words (value S ⊕ bin i)) (at / 16 + 1) (drop at s)
     ≡ maskedBytes (λ i. encipher (Nr 4) words (value S ⊕ bin i)) 1 message₀)
     × (length s ≡ length message₀)
 
 abbrev μ-loop : tie.MeasureT-loop
-μ-loop S message₀ mixed table words at₀ s at = length s - at
+μ-loop S message₀ mixed words at₀ s at = length s - at
 
 table-requires : tie.Need-table-requires Inv-loop μ-loop
 table-requires c κs = search needs
-
-table-requires-2 : tie.Need-table-requires-2 Inv-loop μ-loop
-table-requires-2 c κs = search needs
 
 loop-holds : tie.Need-loop-holds Inv-loop μ-loop
 loop-holds c = (refl, refl)
@@ -39,7 +36,7 @@ mask-block-requires : tie.Need-mask-block-requires Inv-loop μ-loop
 mask-block-requires c κs = search needs
 
 add-at : tie.Need-add-at Inv-loop μ-loop
-add-at c = omega (arith, c .before .before .before .before .before .before .before .before .loop .inv .1)
+add-at c = omega (arith, c .before .before .before .before .before .before .before .loop .inv .1)
 
 loop-less : tie.Need-loop-less Inv-loop μ-loop
 loop-less c = omega (arith, c .before .message .given)
@@ -47,9 +44,9 @@ loop-less c = omega (arith, c .before .message .given)
 loop-again : tie.Need-loop-again Inv-loop μ-loop
 loop-again c =
     let m = c .before .before in
-    let turn = m .before .before .before .before .before in
+    let turn = m .before .before .before .before in
     let l = turn .before .loop in
-    let args = turn .before .before .before .before .before .before .args in
+    let args = turn .before .before .before .before .before .args in
     let next : (l .at + 16) / 16 + 1 ≡ suc (l .at / 16 + 1) = omega arith in (
       rw (m .mask-block .ensures, next)
           (masked-next (λ i. encipher (Nr 4) (args .self .words) (value (args .s) ⊕ bin i)) (l .at / 16 + 1) (l .at) (l .message) (turn .loop-test .taken)
@@ -77,7 +74,6 @@ counter-spec =
     Inv-loop
     μ-loop
     table-requires
-    table-requires-2
     loop-holds
     mask-block-requires
     add-at

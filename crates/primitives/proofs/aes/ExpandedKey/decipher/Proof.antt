@@ -7,6 +7,12 @@ use borrow.Author.Needs.{needs}
 use Rattle.primitives.proofs.aes.ExpandedKey.decipher.Statement.{statement}
 use Rattle.primitives.proofs.aes.ExpandedKey.decipher.Tie as tie
 
+table-requires : tie.Need-table-requires
+table-requires c κs = search needs
+
+table-requires-2 : tie.Need-table-requires-2
+table-requires-2 c κs = search needs
+
 to-words-requires : tie.Need-to-words-requires
 to-words-requires c κs = search needs
 
@@ -19,10 +25,10 @@ from-words-requires c κs = search needs
 returns : tie.Need-returns
 unfolding decipher
 returns c =
-    let a = c .before .before .before .before .before .args in
+    let a = c .before .before .before .before .before .before .before .before .before .args in
     through-columns (invCipher (roundKey (a .self .words)) (Nr 4)) (value (a .block)) (value (c .from-words .result)) (c .before .before .to-words .result) (c .before .inv-cipher .result)
     (c .before .before .to-words .ensures) (c .before .inv-cipher .ensures) (c .from-words .ensures)
 
 pub decipher-spec : {M : Type 1} → statement M
 decipher-spec =
-    tie.close (tie.spec to-words-requires inv-cipher-requires from-words-requires returns)
+    tie.close (tie.spec table-requires table-requires-2 to-words-requires inv-cipher-requires from-words-requires returns)

@@ -1,0 +1,4 @@
+pub mod Carryless
+pub mod Holes
+pub mod Karatsuba
+pub mod Modulo
