@@ -1,5 +1,5 @@
 /* Times the library beside careful and plain C, and sealing and opening beside the library's HCH alone, turn by turn in one run, and
-   prints the best times of one call and their ratios: below 1 the library is faster than the C; for sealing and opening 1 is HCH itself. */
+   prints the times of one call, and the library's over each: below 1 the library is faster than the C; for sealing and opening 1 is HCH itself. */
 #define _POSIX_C_SOURCE 199309L
 #include "aes.h"
 #include "careful.h"
@@ -95,11 +95,37 @@ static double now(void) {
     return (double)t.tv_sec + (double)t.tv_nsec * 1e-9;
 }
 
-/* The best time of one call of each side of each row, in nanoseconds. A turn goes through all rows, so that what else the machine does for
-   some seconds slows no row in all turns; and from turn to turn the stack stands elsewhere, for that alone is worth some per cent. The
-   first call of each side in a turn, which finds the caches cold, is not timed. In every turn all sides of a row are to leave the same bytes. */
-static void measure(const row *rows, int count, double best[][SIDES]) {
+/* Of one row, each the median over all turns: the nanoseconds of a call of each side, and the library's time over that of the side in the same
+   turn, for a processor may change its clock from turn to turn. */
+typedef struct {
+    double time[SIDES], ratio[SIDES];
+} result;
+
+static int by_size(const void *a, const void *b) {
+    double x = *(const double *)a, y = *(const double *)b;
+    return (x > y) - (x < y);
+}
+
+static double median(double values[TURNS]) {
+    qsort(values, TURNS, sizeof *values, by_size);
+    return values[TURNS / 2];
+}
+
+static void sum_up(double times[SIDES][TURNS], result *of) {
+    static double ratios[TURNS];
+    for (int side = SIDES - 1; side >= 0; side--) {
+        for (int turn = 0; turn < TURNS; turn++) ratios[turn] = times[0][turn] / times[side][turn];
+        of->ratio[side] = median(ratios);
+        of->time[side] = median(times[side]);
+    }
+}
+
+/* A turn goes through all rows, so that what else the machine does for some seconds slows no row in all turns; and from turn to turn the stack
+   stands elsewhere, for that alone is worth some per cent. The first call of each side in a turn, which finds the caches cold, is not timed.
+   In every turn all sides of a row are to leave the same bytes. */
+static void measure(const row *rows, int count, result results[]) {
     static uint8_t data[ROWS][SIDES][4096];
+    static double times[ROWS][SIDES][TURNS];
     memset(data, 1, sizeof data); /* not 0, for the product would stay 0 */
     for (int turn = 0; turn < TURNS; turn++) {
         volatile uint8_t room[16 + turn * 80 % 4096];
@@ -111,13 +137,13 @@ static void measure(const row *rows, int count, double best[][SIDES]) {
                 call(bytes, rows[i].length);
                 double start = now();
                 for (int n = 0; n < rows[i].calls; n++) call(bytes, rows[i].length);
-                double time = (now() - start) / rows[i].calls * 1e9;
-                if (turn == 0 || time < best[i][side]) best[i][side] = time;
+                times[i][side][turn] = (now() - start) / rows[i].calls * 1e9;
                 if (memcmp(bytes, data[i][0], rows[i].length) == 0) continue;
                 printf("%s: the bytes differ\n", rows[i].name);
                 exit(1);
             }
     }
+    for (int i = 0; i < count; i++) sum_up(times[i], &results[i]);
 }
 
 /* The last four rows are in pairs, which print_growth compares. */
@@ -140,35 +166,35 @@ static const row beside_alone[] = {
     {"opening 496 bytes", 512, 32, {open_block, decipher_alone}},
 };
 
-static void print_growth(const char *name, double at_512[SIDES], double at_4096[SIDES]) {
+static void print_growth(const char *name, const result *at_512, const result *at_4096) {
     printf("%-30s", name);
-    for (int side = 0; side < SIDES; side++) printf(" %9.2f", at_4096[side] / at_512[side]);
+    for (int side = 0; side < SIDES; side++) printf(" %9.2f", at_4096->time[side] / at_512->time[side]);
     printf("\n");
 }
 
 int main(void) {
-    double best[ROWS][SIDES];
+    result results[ROWS];
     plain_aes_expand(w, key);
     careful_start();
     memcpy(inverted, w, sizeof w);
     careful_aes_invert(inverted);
     careful_prepare(&multiples, key);
 
-    measure(beside_c, ROWS, best);
+    measure(beside_c, ROWS, results);
     printf("%-30s %9s %9s %9s %16s %14s\n", "nanoseconds a call", "library", "careful C", "plain C", "library/careful", "library/plain");
     for (int i = 0; i < ROWS; i++) {
-        double *b = best[i];
-        printf("%-30s %9.0f %9.0f %9.0f %16.2f %14.2f\n", beside_c[i].name, b[0], b[1], b[2], b[0] / b[1], b[0] / b[2]);
+        const result *r = &results[i];
+        printf("%-30s %9.0f %9.0f %9.0f %16.2f %14.2f\n", beside_c[i].name, r->time[0], r->time[1], r->time[2], r->ratio[1], r->ratio[2]);
     }
     printf("\n%-30s %9s %9s %9s\n", "4,096 bytes over 512 bytes", "library", "careful C", "plain C");
-    print_growth("HCH, enciphering", best[ROWS - 4], best[ROWS - 2]);
-    print_growth("HCH, deciphering", best[ROWS - 3], best[ROWS - 1]);
+    print_growth("HCH, enciphering", &results[ROWS - 4], &results[ROWS - 2]);
+    print_growth("HCH, deciphering", &results[ROWS - 3], &results[ROWS - 1]);
 
     prepare(0);
-    measure(beside_alone, 2, best);
+    measure(beside_alone, 2, results);
     prepare(496);
-    measure(beside_alone + 2, 2, best + 2);
+    measure(beside_alone + 2, 2, results + 2);
     printf("\n%-30s %9s %9s %16s\n", "nanoseconds a call", "library", "HCH alone", "library/alone");
-    for (int i = 0; i < 4; i++) printf("%-30s %9.0f %9.0f %16.2f\n", beside_alone[i].name, best[i][0], best[i][1], best[i][0] / best[i][1]);
+    for (int i = 0; i < 4; i++) printf("%-30s %9.0f %9.0f %16.2f\n", beside_alone[i].name, results[i].time[0], results[i].time[1], results[i].ratio[1]);
     return 0;
 }
