@@ -1,10 +1,11 @@
-// 01's four functions for the app in C. include/boards.h declares and explains them; a slice is there a pointer and a length. Each answers the number of
+// 01's four functions for the app in C, and 02's finding. include/boards.h declares and explains them; a slice is there a pointer and a length. Each answers the number of
 // the call that it makes, 0 where the work was done, and carries that call's promises.
 ghost use mathlib.Core.Path.{_≡_};
 ghost use lib.ListN.{length};
 ghost use Rattle.strings.specs.Call.{numberOf, leftBy};
 ghost use Rattle.hch.specs.Hch.{enciphered, deciphered, hch as scheme};
 ghost use Rattle.hch.specs.Call.{answerOf, IsCipher, OnePlaintext};
+ghost use Rattle.layout.specs.Finding.{answerOf as answerOfFinding};
 ghost use Rattle.pack.specs.Sealing.{seal, answerOf as answerOfSealing};
 ghost use Rattle.pack.specs.Opening.{decipheredBlock, numberOf as numberOfOpening, answerOf as answerOfOpening, OneBlock, Meaning};
 
@@ -53,4 +54,12 @@ pub extern "C" fn boards_open(key: &[u8], pack: u64, place: u32, block: &mut [u8
     ensures { λ r. ⌜ Meaning scheme r (now (key .entry)) pack place (now (block .entry)) (now (block .exit)) ⌝ }
 {
     pack::open(key, pack, place, block).number()
+}
+
+// Whether the block of a place can be found in the lent pack. Where it can, it begins at byte 512 * place, and the header's boards_part points there.
+#[no_mangle]
+pub extern "C" fn boards_find(pack: &[u8], place: u32) -> u32
+    ensures { λ r. ⌜ r ≡ numberOf (answerOfFinding place (now (pack .entry))) ⌝ }
+{
+    layout::find_answer(pack, place).number()
 }

@@ -16,7 +16,7 @@ use Rattle.line.specs.Line.{replyTo, answer}
 use Rattle.claims.specs.Demand1.{Demand1}
 use Rattle.claims.proofs.Number9.{line-9-only}
 
-refused-left : (number : ℕ) (work lent : List ℕ) → 0 < number → leftBy number work lent ≡ lent
+pub refused-left : (number : ℕ) (work lent : List ℕ) → 0 < number → leftBy number work lent ≡ lent
 refused-left zero work lent h = absurd (omega (arith, h))
 refused-left (suc n) work lent h = refl
 
@@ -43,7 +43,7 @@ demand-1 = record {
   line-9-only = line-9-only;
   line-enciphered = λ line key tweak message e. rw e;
   line-deciphered = λ line key tweak message e. rw e;
-  library-1-to-8 = refusal-range;
+  library-numbers = refusal-range;
   refused-left = refused-left;
   refused-alone = λ why. (refl, refl);
   not-opened-alone = λ why. (refl, refl);

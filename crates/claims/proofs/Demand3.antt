@@ -25,7 +25,7 @@ key-of-16 : (key : List ℕ) → length key ≡ 16 → hch .isKey key ≡ true
 unfolding isKey
 key-of-16 key k = eq-eqb (length key) 16 k
 
-hch-pack : (key : List ℕ) → length key ≡ 16 → Pack hch key
+pub hch-pack : (key : List ℕ) → length key ≡ 16 → Pack hch key
 hch-pack key k = Packs.theorems .any-cipher hch key (key-of-16 key k) (hch-tweakable key)
 
 three-of-ten : count (λ v. leb 7 v) 10 ≡ 3

@@ -2,4 +2,5 @@ pub mod Demand1
 pub mod Demand3
 pub mod Examples
 pub mod Fips197
+pub mod Point1
 pub mod Program

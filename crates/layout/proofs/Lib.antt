@@ -1,3 +1,6 @@
 pub mod Comparison
 pub mod Check
 pub mod Examples
+pub mod Parts
+pub mod Written
+pub mod Theorems

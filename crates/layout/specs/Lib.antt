@@ -1,2 +1,4 @@
 pub mod Layout
+pub mod Finding
 pub mod Inner
+pub mod Theorems

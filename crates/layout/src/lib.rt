@@ -1,4 +1,4 @@
-// The plain block of 512 bytes and its tweak, as 01 lays them out, on lent bytes. Nothing here knows of a cipher.
+// The plain block of 512 bytes and its tweak, as 01 lays them out, and where a block stands in a pack, on lent bytes. Nothing here knows of a cipher.
 ghost use Prim.Native.Nat.{_+_, _≤_};
 ghost use mathlib.Core.Path.{_≡_};
 ghost use mathlib.Core.Bool.{cond};
@@ -8,6 +8,12 @@ ghost use Rattle.strings.specs.Bytes.{bytes, equal};
 ghost use Rattle.strings.specs.Inner.{overwrite};
 ghost use Rattle.layout.specs.Layout.{check, plainBlock, tweak as tweakOf, used as usedOf, passes as passesCheck};
 ghost use Rattle.layout.specs.Inner.{fits, verdictOf};
+
+mod finding;
+
+pub use finding::find;
+pub use finding::find_answer;
+pub use finding::find_mut;
 use strings::number;
 
 // What a block is read as: the length of the payload where it passes its check.

@@ -1,16 +1,30 @@
 -- The theorems that specs/Theorems.antt names.
 -- Assumes nothing.
-use Prim.Native.Nat.{ℕ}
+use Prim.Native.Nat.{ℕ, _≤_}
 use mathlib.Core.Path.{_≡_, ap}
 use mathlib.Core.Bool.{true}
 use mathlib.Core.List.{List}
+use native.Mathlib.Omega.{arith}
+use lib.ListN.{length}
+use Rattle.strings.specs.Bytes.{Bytes}
 use Rattle.strings.specs.Cipher.{TweakableCipher, Scheme}
 use Rattle.layout.specs.Layout.{tweak}
 use Rattle.layout.proofs.Check.{tweak-of-length, take-plain}
+use Rattle.layout.proofs.Parts.{none-refused, found-limit}
+use Rattle.layout.proofs.Theorems as Layout
+use Rattle.pack.specs.Sealing.{seal, WithinLimits}
 use Rattle.pack.specs.Opening.{numberOf, valuesOf}
 use Rattle.pack.specs.Inner.{CipherAt}
-use Rattle.pack.specs.Theorems.{Pack, Theorems}
+use Rattle.pack.specs.Theorems.{IsFound, Pack, Theorems}
 use Rattle.pack.proofs.OneBlock.{deciphered-sealed, answer-sealed, only-sealed, one-block, eight}
+
+-- A place that is found is within the limits.
+within : {payload : List ℕ} (place : ℕ) (blocks : List ℕ) → Bytes payload → length payload ≤ 496 → IsFound place blocks → WithinLimits payload place
+within place blocks b h e = record {
+  payload-bytes = b;
+  payload-length = h;
+  place-limit = omega (arith, found-limit place blocks (none-refused place blocks e));
+}
 
 any-cipher : (S : Scheme) (key : List ℕ) → S .isKey key ≡ true → TweakableCipher 16 512 (S .encipher key) (S .decipher key) → Pack S key
 any-cipher S key k cipher =
@@ -25,6 +39,12 @@ any-cipher S key k cipher =
           );
       only-sealed = λ payload pack place. only-sealed S key pack place (at pack place) payload;
       one-block = λ payload pack place. one-block S key pack place (at pack place) payload k;
+      opened-in-place = λ payload pack place blocks b h e.
+          let sealed = one-block S key pack place (at pack place) payload k (within place blocks b h e) .one in
+          rw (Layout.theorems .written-found place (seal S key payload pack place) blocks e (sealed .among .0)) (sealed .passes);
+      others-in-place = λ payload pack place blocks b h e other apart key′ payload′ pack′ place′.
+          let sealed = one-block S key pack place (at pack place) payload k (within place blocks b h e) .one in
+          rw (Layout.theorems .others-found place other (seal S key payload pack place) blocks e (sealed .among .0) apart);
       eight = λ pack place. eight S key pack place (at pack place);
     }
 

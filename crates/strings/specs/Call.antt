@@ -1,13 +1,13 @@
--- What the calls that refuse have in common: the reasons with 01's numbers, the first test that holds, and what is left of the lent bytes.
+-- What the calls that refuse have in common: the reasons with the numbers of 01 and 02, the first test that holds, and what is left of the lent bytes.
 use Prim.Native.Nat.{ℕ, zero, suc}
 use mathlib.Core.Bool.{Bool, cond}
 use mathlib.Core.List.{List, [], _∷_}
 use Rattle.strings.specs.declared.refusal.Refusal.{Refusal}
-use Rattle.strings.specs.declared.refusal.Refusal.the-variants.{KeyLength, TweakLength, TooShort, TooLong, PayloadTooLong, PlaceTooHigh, BlockLength, CheckFailed}
+use Rattle.strings.specs.declared.refusal.Refusal.the-variants.{KeyLength, TweakLength, TooShort, TooLong, PayloadTooLong, PlaceTooHigh, BlockLength, CheckFailed, PackLength}
 use Rattle.strings.specs.declared.refusal.Answer.{Answer}
 use Rattle.strings.specs.declared.refusal.Answer.the-variants.{Done, Refused}
 
--- 01, "Numbers for a call that was not done".
+-- 01, "Numbers for a call that was not done", and 02's. Number 9 is the program's.
 abbrev pub refusalNumber : Refusal → ℕ
 refusalNumber KeyLength = 1
 refusalNumber TweakLength = 2
@@ -17,6 +17,7 @@ refusalNumber PayloadTooLong = 5
 refusalNumber PlaceTooHigh = 6
 refusalNumber BlockLength = 7
 refusalNumber CheckFailed = 8
+refusalNumber PackLength = 10
 
 -- A call that was done has 0.
 abbrev pub numberOf : Answer → ℕ

@@ -3,7 +3,7 @@ ghost use mathlib.Core.Path.{_≡_};
 ghost use Rattle.strings.specs.Call.{refusalNumber, numberOf};
 ghost use Rattle.strings.specs.Inner.{refuseIf};
 
-// 01's reasons, in the order of their numbers.
+// The reasons of 01 and 02, in the order of their numbers.
 pub enum Refusal {
     KeyLength,
     TweakLength,
@@ -13,6 +13,7 @@ pub enum Refusal {
     PlaceTooHigh,
     BlockLength,
     CheckFailed,
+    PackLength,
 }
 
 pub enum Answer {
@@ -21,7 +22,7 @@ pub enum Answer {
 }
 
 impl Refusal {
-    // 01's number.
+    // Its number in 01 or 02.
     pub fn number(self) -> u32
         ensures { λ r. ⌜ r ≡ refusalNumber self ⌝ }
     {
@@ -34,12 +35,13 @@ impl Refusal {
             Refusal::PlaceTooHigh => 6,
             Refusal::BlockLength => 7,
             Refusal::CheckFailed => 8,
+            Refusal::PackLength => 10,
         }
     }
 }
 
 impl Answer {
-    // 01's number of a refusal, and 0 for a call that was done.
+    // The number of a refusal, and 0 for a call that was done.
     pub fn number(self) -> u32
         ensures { λ r. ⌜ r ≡ numberOf self ⌝ }
     {
