@@ -7,11 +7,12 @@
  *     save KEYFILE PACKNUMBER PACKFILE get PLACE       writes the board that begins at the place to standard output
  *     save KEYFILE PACKNUMBER PACKFILE check           says of each place whether its block is good
  *
- * KEYFILE holds the 16 bytes of the key, and PACKNUMBER is a number of up to 64 bits. The block of place p begins at
- * byte 512 * p of the pack file. A board is a file of any length, cut into payloads of 496 bytes. Its last payload is
- * shorter, and empty if nothing is left for it, so that a board's end is told from its blocks alone: a board of 1,236
- * bytes takes three blocks, of 496, 496 and 244 bytes. One program at a time may add to a pack file.
- * If a board was not saved whole, the file takes no more until it is cut back to the end of its last whole board.
+ * KEYFILE holds the 16 bytes of the key, and PACKNUMBER is a number of up to 64 bits. The pack file is a pack of 1 to
+ * 128 blocks; add begins it where it is empty or missing. A board is a file, cut into payloads of 496 bytes. Its last
+ * payload is shorter, and empty if nothing is left for it, so that a board's end is told from its blocks alone: a board
+ * of 1,236 bytes takes three blocks, of 496, 496 and 244 bytes. One program at a time may add to a pack file.
+ * If a board was not saved whole, the file takes no more until it is cut back to the end of its last whole board; if it
+ * ends within a block, it gives none either, but check still looks at the blocks in front of that one.
  *
  * Status 0: all was done. 1: something was refused, is damaged or could not be read or written. 2: wrong arguments.
  */
@@ -26,11 +27,14 @@
 /* Set once, from the arguments. */
 static uint8_t key[BOARDS_KEY_SIZE + 1]; /* one byte more, so that a key file that is too long is told from a key */
 static size_t key_length;
-static uint64_t pack;
+static uint64_t pack_number;
 static const char *pack_file;
 
-/* The blocks of the board in hand: as many as a pack has places, and one for the next place, which is refused. */
-static uint8_t blocks[BOARDS_PLACE_MAX + 2][BOARDS_BLOCK_SIZE];
+/* The pack, as long as it may be and a block more, so that one that is too long is told. */
+static uint8_t pack[(BOARDS_PACK_BLOCKS_MAX + 1) * BOARDS_BLOCK_SIZE];
+static size_t pack_length;
+
+static const char no_end[] = "the end of the last board is missing";
 
 /* Unless all is well, says what is wrong with a file and ends the program. Without a sentence, errno has the reason. */
 static void need(bool well, const char *file, const char *sentence) {
@@ -60,77 +64,81 @@ static void read_key(const char *name) {
     FILE *file = open_file(name, "rb");
     key_length = fread(key, 1, sizeof key, file);
     close_file(file, name);
-    uint32_t answer = boards_seal(key, key_length, NULL, 0, pack, 0, blocks[0], BOARDS_BLOCK_SIZE);
+    uint32_t answer = boards_seal(key, key_length, NULL, 0, pack_number, 0, pack, BOARDS_BLOCK_SIZE);
     need(answer == BOARDS_DONE, name, boards_reason(answer));
 }
 
-/* Reads the block of a place, opens it and gives its payload's length. A block that is cut short is lent as it is. */
-static size_t open_block(FILE *file, uint32_t place, uint8_t *block) {
-    need(fseek(file, (long)place * BOARDS_BLOCK_SIZE, SEEK_SET) == 0, pack_file, NULL);
-    size_t length = fread(block, 1, BOARDS_BLOCK_SIZE, file);
+/* Reads the pack file, and leaves it open. */
+static FILE *read_pack(const char *mode) {
+    FILE *file = open_file(pack_file, mode);
+    rewind(file); /* one that is opened to be added to may stand at its end */
+    pack_length = fread(pack, 1, sizeof pack, file);
     need(!ferror(file), pack_file, NULL);
-    need_at(place, length > 0, "there is no such place in the pack");
-    uint32_t answer = boards_open(key, key_length, pack, place, block, length);
+    return file;
+}
+
+/* The block of a place, where it stands in the pack. */
+static uint8_t *find(uint32_t place) {
+    uint32_t answer = boards_find(pack, pack_length, place);
     need_at(place, answer == BOARDS_DONE, boards_reason(answer));
-    return boards_payload_length(block);
+    return boards_part(pack, place);
 }
 
-/* The place behind the last block. That one has to be good and the end of a board: nothing is added behind half a
-   board, nor under another key or pack number. */
-static uint32_t next_place(FILE *file) {
-    need(fseek(file, 0, SEEK_END) == 0, pack_file, NULL);
-    long end = ftell(file), last = (end - 1) / BOARDS_BLOCK_SIZE;
-    need(end >= 0, pack_file, NULL);
-    if (end == 0) return 0;
-    uint32_t place = last > BOARDS_PLACE_MAX ? BOARDS_PLACE_MAX + 1 : (uint32_t)last; /* all higher ones are refused */
-    need_at(place, open_block(file, place, blocks[0]) < BOARDS_PAYLOAD_MAX, "the end of the last board is missing");
-    return place + 1;
+/* Opens the block of a place where it stands, and gives its payload's length. */
+static size_t open_block(uint32_t place) {
+    uint32_t answer = boards_open(key, key_length, pack_number, place, find(place), BOARDS_BLOCK_SIZE);
+    need_at(place, answer == BOARDS_DONE, boards_reason(answer));
+    return boards_payload_length(find(place));
 }
 
-/* Seals all of a board before any of it is written: if it is refused, the pack file holds what it held. */
+/* Seals all of a board before any of it is written: if it is refused, the pack file holds what it held. The last block
+   that it holds has to be good and the end of a board: nothing is added behind half a board, nor under another key or
+   pack number. */
 static void add(const char *name) {
     uint8_t payload[BOARDS_PAYLOAD_MAX];
     size_t length;
-    FILE *board = open_file(name, "rb"), *file = open_file(pack_file, "a+b");
-    uint32_t first = next_place(file), count = 0;
+    FILE *board = open_file(name, "rb"), *file = read_pack("a+b");
+    uint32_t first = (uint32_t)(pack_length / BOARDS_BLOCK_SIZE), count = 0;
+    if (first > 0) need_at(first - 1, open_block(first - 1) < BOARDS_PAYLOAD_MAX, no_end);
     do {
         length = fread(payload, 1, sizeof payload, board);
-        uint32_t place = first + count, answer;
-        answer = boards_seal(key, key_length, payload, length, pack, place, blocks[count++], BOARDS_BLOCK_SIZE);
+        uint32_t place = first + count++, answer;
+        need_at(place, place < BOARDS_PACK_BLOCKS_MAX, "the board does not fit in: a pack has 128 blocks at most");
+        pack_length += BOARDS_BLOCK_SIZE; /* the pack has a block more, which is found then */
+        answer = boards_seal(key, key_length, payload, length, pack_number, place, find(place), BOARDS_BLOCK_SIZE);
         need_at(place, answer == BOARDS_DONE, boards_reason(answer));
     } while (length == sizeof payload);
     close_file(board, name);
     /* Once it is all out, the file ends where this board ends, unless another program has written to it. */
-    bool written = fseek(file, 0, SEEK_END) == 0 && fwrite(blocks, sizeof blocks[0], count, file) == count &&
-                   fflush(file) == 0 && ftell(file) == (long)(first + count) * BOARDS_BLOCK_SIZE && fclose(file) == 0;
+    bool written = fseek(file, 0, SEEK_END) == 0 && fwrite(find(first), BOARDS_BLOCK_SIZE, count, file) == count &&
+                   fflush(file) == 0 && ftell(file) == (long)pack_length && fclose(file) == 0;
     need_at(first, written, "a board was not saved whole: the disk is full, or another program added to the file");
     printf("%s: first place %" PRIu32 ", number of blocks %" PRIu32 "\n", name, first, count);
 }
 
 /* Opens all blocks of a board before any of it is written: of a board that is damaged nothing is given. */
-static void get(uint32_t place) {
-    uint32_t count = 0;
-    FILE *file = open_file(pack_file, "rb");
-    while (open_block(file, place + count, blocks[count]) == BOARDS_PAYLOAD_MAX) count++;
-    close_file(file, pack_file);
-    for (uint32_t i = 0; i <= count; i++) fwrite(blocks[i], 1, boards_payload_length(blocks[i]), stdout);
+static void get(uint32_t first) {
+    uint32_t last = first;
+    close_file(read_pack("rb"), pack_file);
+    while (open_block(last) == BOARDS_PAYLOAD_MAX) last++;
+    for (; first <= last; first++) fwrite(find(first), 1, boards_payload_length(find(first)), stdout);
 }
 
-/* Stops at a place that is too high, since all that follow are. */
+/* Where the file ends within a block, the whole ones are looked at before this is told. */
 static void check(void) {
-    uint32_t answer = BOARDS_DONE, place = 0, bad = 0;
-    size_t length, used = 0;
-    FILE *file = open_file(pack_file, "rb");
-    while (answer != BOARDS_PLACE_TOO_HIGH && (length = fread(blocks[0], 1, BOARDS_BLOCK_SIZE, file)) > 0) {
-        answer = boards_open(key, key_length, pack, place, blocks[0], length);
-        printf("place %" PRIu32 ": %s\n", place++, answer == BOARDS_DONE ? "good" : boards_reason(answer));
-        used = boards_payload_length(blocks[0]);
+    uint32_t answer, place = 0, bad = 0;
+    close_file(read_pack("rb"), pack_file);
+    size_t whole = pack_length - pack_length % BOARDS_BLOCK_SIZE;
+    for (; boards_find(pack, whole, place) == BOARDS_DONE; place++) {
+        answer = boards_open(key, key_length, pack_number, place, boards_part(pack, place), BOARDS_BLOCK_SIZE);
+        printf("place %" PRIu32 ": %s\n", place, answer == BOARDS_DONE ? "good" : boards_reason(answer));
         bad += answer != BOARDS_DONE;
     }
-    close_file(file, pack_file);
+    answer = boards_find(pack, pack_length, 0);
+    need(answer == BOARDS_DONE, pack_file, boards_reason(answer));
     printf("number of blocks %" PRIu32 ", not good %" PRIu32 "\n", place, bad);
     need(bad == 0, pack_file, "not all blocks are good");
-    need(used < BOARDS_PAYLOAD_MAX, pack_file, "the end of the last board is missing");
+    need(boards_payload_length(boards_part(pack, place - 1)) < BOARDS_PAYLOAD_MAX, pack_file, no_end);
 }
 
 /* Whether the text is a number, in digits alone: strtoull itself would pass over blanks and take a sign. */
@@ -146,7 +154,7 @@ int main(int argc, char **argv) {
     bool adding = argc > 5 && strcmp(argv[4], "add") == 0;
     bool getting = argc == 6 && strcmp(argv[4], "get") == 0 && is_number(argv[5], UINT32_MAX, &place);
     bool checking = argc == 5 && strcmp(argv[4], "check") == 0;
-    if (!(adding || getting || checking) || !is_number(argv[2], UINT64_MAX, &pack)) {
+    if (!(adding || getting || checking) || !is_number(argv[2], UINT64_MAX, &pack_number)) {
         fputs("usage: save KEYFILE PACKNUMBER PACKFILE add BOARD... | get PLACE | check\n", stderr);
         return 2;
     }

@@ -10,37 +10,43 @@
  *
  * boards_seal puts a payload into a block that carries its own check, for a pack and a place, and boards_open gives
  * it back. A pack is a collection of blocks, known by a number that you choose, and a place is the number of a block
- * in it. Where the blocks stand in a file is up to you. What is longer than a payload takes several blocks:
- * examples/save.c, in the source of this library, shows how.
+ * in it. What is longer than a payload takes several blocks: examples/save.c, in the source of this library, shows
+ * how.
+ *
+ * In a file or in memory, a pack is 1 to 128 blocks in the order of their places: n blocks have the places 0 to n - 1,
+ * and the block of place p begins at byte 512 * p. boards_find says whether a pack has a block of that place, and
+ * boards_part where it stands: it is sealed or opened there, and nothing is copied. boards_seal and boards_open
+ * themselves see one block, wherever it is, and take every place up to 65,535.
  *
  * Each call does its work on the bytes that it is lent and answers 0, or it answers the number of what is wrong and
- * leaves every byte as it was. It does so for every key, tweak, board, payload and block, of any length and any
- * content, and for every pack and every place. Of every call:
+ * leaves every byte as it was. It does so for every key, tweak, board, payload, block and pack, of any length and any
+ * content, and for every pack number and every place. Of every call:
  *   - Bytes are lent as a pointer to the first of them and a length. As many bytes have to be there as the length
  *     says, and those of data and block have to be writable. Where the length is 0, the pointer may be anything, NULL
  *     too.
- *   - key, tweak and payload are read and never written. data and block are read and written. Nothing else is
- *     touched, errno included.
+ *   - key, tweak, payload and the pack that is lent to boards_find are never written. data and block are read and
+ *     written. Nothing else is touched, errno included.
  *   - What is written must not overlap what is read: data or block is to have no byte in common with key, tweak or
  *     payload; so a payload cannot be sealed where it stands in the block. key, tweak and payload may overlap each
  *     other.
  *   - No call can tell whether a pointer, a length or an overlap is wrong in this sense: nothing is promised then.
  *   - Nothing is kept between calls, no memory is allocated, and no system call is made. As compiled today, a call
  *     takes some 5 KiB of stack. Any number of threads may call at once, as long as none is lent bytes that another
- *     one's call may write.
+ *     one's call may write. As compiled today, boards_find reads no byte of the pack, so that other threads may be at
+ *     work on its blocks meanwhile; this is tested, and not proved.
  *   - The bytes may stand at any address: nothing has to be aligned.
  *
- * What is proved. The four functions are written in Rattle, a language in which each function states what it
+ * What is proved. The five functions are written in Rattle, a language in which each function states what it
  * promises, and the archive libboards.a is made only after a checker has accepted a proof of every promise. Proved is
  * that each call ends, touches nothing but the bytes that it is lent, and answers and leaves what is said below, for
  * all arguments, where HCH and AES are definitions in the source, written line by line from the paper of D. Chakraborty
  * and P. Sarkar and from FIPS 197; and that no two boards encipher to the same bytes under the same key and tweak.
  * crates/boards/src/lib.rt, in the source, has the promises in full.
  *
- * Where the proof ends. Not proved are this header (its declarations, its comments and its two inline functions); that
- * the definitions are what the papers mean, which a reader can see and vectors from outside test; the compiler that
- * makes the archive, and the C library's memcpy and memset; that your pointers and lengths are right; and that HCH is
- * hard to break.
+ * Where the proof ends. Not proved are this header (its declarations, its comments and its four inline functions);
+ * that the definitions are what the papers mean, which a reader can see and vectors from outside test; the compiler
+ * that makes the archive, and the C library's memcpy and memset; that your pointers and lengths are right; and that
+ * HCH is hard to break.
  *
  * Timing. Nothing is promised of the time that a call takes, and no proof speaks of it. AES looks up tables at
  * places that depend on the key and the data: whoever shares a processor's cache with the program may learn something
@@ -56,18 +62,19 @@
 #include <stddef.h>
 #include <stdint.h>
 
-/* The version of the library: 0.9. */
+/* The version of the library: 0.10. */
 #define BOARDS_VERSION_MAJOR 0
-#define BOARDS_VERSION_MINOR 9
+#define BOARDS_VERSION_MINOR 10
 
-/* The limits, in bytes but for the last. */
+/* The limits, in bytes but for the last two. */
 #define BOARDS_KEY_SIZE 16
 #define BOARDS_TWEAK_SIZE 16
 #define BOARDS_DATA_MIN 16
 #define BOARDS_DATA_MAX 4096
 #define BOARDS_BLOCK_SIZE 512
 #define BOARDS_PAYLOAD_MAX 496
-#define BOARDS_PLACE_MAX 65535 /* places run from 0 to this one */
+#define BOARDS_PLACE_MAX 65535     /* places run from 0 to this one */
+#define BOARDS_PACK_BLOCKS_MAX 128 /* a pack has 1 to so many blocks */
 
 /* What a call answers. */
 #define BOARDS_DONE 0                /* the work is done */
@@ -76,10 +83,11 @@
 #define BOARDS_DATA_TOO_SHORT 3      /* the data is under 16 bytes long */
 #define BOARDS_DATA_TOO_LONG 4       /* the data is over 4,096 bytes long */
 #define BOARDS_PAYLOAD_TOO_LONG 5    /* payload_length is over 496 */
-#define BOARDS_PLACE_TOO_HIGH 6      /* the place is over 65,535 */
+#define BOARDS_PLACE_TOO_HIGH 6      /* the place is over 65,535; in boards_find, it is past the pack's last block */
 #define BOARDS_WRONG_BLOCK_SIZE 7    /* the block is not 512 bytes long */
 #define BOARDS_CHECK_FAILED 8        /* no payload seals to this block under this key, pack and place */
 #define BOARDS_LINE_NOT_UNDERSTOOD 9 /* said by the command boardline alone: no function here answers it */
+#define BOARDS_WRONG_PACK_SIZE 10    /* the pack is not 1 to 128 whole blocks of 512 bytes */
 
 /* Lets the compiler warn where an answer is not looked at: the data of a refused call is still the plain board. */
 #if defined(__GNUC__)
@@ -145,6 +153,28 @@ BOARDS_LOOK_AT_ANSWER
 uint32_t boards_open(const uint8_t *key, size_t key_length, uint64_t pack, uint32_t place,
                      uint8_t *block, size_t length);
 
+/*
+ * Says whether a pack of n blocks, 1 to 128, has a block of this place, which is so for the places 0 to n - 1.
+ *
+ * Answers BOARDS_DONE: the block begins at byte 512 * place of the pack, at boards_part(pack, place).
+ * Answers 10 or 6, the first of them that applies, in this order (BOARDS_WRONG_PACK_SIZE, BOARDS_PLACE_TOO_HIGH): there
+ * is no such block.
+ */
+BOARDS_LOOK_AT_ANSWER
+uint32_t boards_find(const uint8_t *pack, size_t length, uint32_t place);
+
+/* The block of a place that boards_find has found in the pack: the address of its 512 bytes, to be lent to boards_seal
+   or boards_open. Blocks of different places have no byte in common. Where boards_find did not answer BOARDS_DONE,
+   nothing is promised. */
+static inline uint8_t *boards_part(uint8_t *pack, uint32_t place) {
+    return pack + (size_t)BOARDS_BLOCK_SIZE * place;
+}
+
+/* The same in a pack that is only read. */
+static inline const uint8_t *boards_const_part(const uint8_t *pack, uint32_t place) {
+    return pack + (size_t)BOARDS_BLOCK_SIZE * place;
+}
+
 /* The payload's length, 0 to 496, in a block that boards_open has opened. Of other bytes it tells nothing: it may be
    up to 65,535 there. */
 static inline size_t boards_payload_length(const uint8_t *block) {
@@ -160,10 +190,11 @@ static inline const char *boards_reason(uint32_t number) {
     case BOARDS_DATA_TOO_SHORT: return "the board is shorter than 16 bytes";
     case BOARDS_DATA_TOO_LONG: return "the board is longer than 4,096 bytes";
     case BOARDS_PAYLOAD_TOO_LONG: return "the payload is longer than 496 bytes";
-    case BOARDS_PLACE_TOO_HIGH: return "the place is over 65,535";
+    case BOARDS_PLACE_TOO_HIGH: return "the place is over 65,535, or past the last block of the pack";
     case BOARDS_WRONG_BLOCK_SIZE: return "the block is not 512 bytes long";
     case BOARDS_CHECK_FAILED: return "the block is damaged, or belongs to another key, pack or place";
     case BOARDS_LINE_NOT_UNDERSTOOD: return "the line was not understood";
+    case BOARDS_WRONG_PACK_SIZE: return "the pack is not 1 to 128 whole blocks of 512 bytes";
     default: return "there is no such number";
     }
 }

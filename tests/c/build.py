@@ -20,7 +20,8 @@ INSTALLED = ["include/boards.h", "lib/libboards.a", "lib/pkgconfig/boards.pc"]
 INSTALLING = 3600  # seconds: the library is proved before it is compiled
 
 # What the archive defines, and what it may ask for: the header says so.
-DEFINED = ["boards_decipher", "boards_encipher", "boards_open", "boards_seal"]
+DEFINED = ["boards_decipher", "boards_encipher", "boards_find", "boards_open",
+           "boards_seal"]
 ASKED_FOR = {"memcpy", "memset"}
 
 

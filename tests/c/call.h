@@ -4,7 +4,7 @@
 
 #include "lent.h"
 
-typedef enum { ENCIPHER, DECIPHER, SEAL, OPEN, FUNCTIONS } function;
+typedef enum { ENCIPHER, DECIPHER, SEAL, OPEN, FIND, FUNCTIONS } function;
 
 extern const char *const function_names[FUNCTIONS];
 
@@ -15,12 +15,12 @@ typedef struct {
 
 typedef struct {
     function name;
-    slice key;
-    slice tweak;   /* of ENCIPHER and DECIPHER alone */
-    slice payload; /* of SEAL alone */
-    slice data;    /* the board, or the block */
-    uint64_t pack; /* of SEAL and OPEN alone, as is the place */
-    uint32_t place;
+    slice key;             /* of all but FIND */
+    slice tweak;           /* of ENCIPHER and DECIPHER alone */
+    slice payload;         /* of SEAL; of FIND the part that is found, or nothing, and then it is not compared */
+    slice data;            /* the board, the block, or the pack, of which FIND may not even read a byte */
+    uint64_t pack;         /* the number, of SEAL and OPEN alone */
+    uint32_t place;        /* of all but ENCIPHER and DECIPHER */
     uint32_t number;       /* the answer */
     const uint8_t *after;  /* what data holds then, as many bytes as before */
     size_t payload_length; /* what boards_payload_length says of a block that was opened */

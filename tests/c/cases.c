@@ -8,7 +8,7 @@
 #include <errno.h>
 #include <string.h>
 
-enum { MOST = 8192, LINE = 65536 }; /* bytes of a field, and characters of a line */
+enum { MOST = 130 * 512 + 1, LINE = 4 * MOST }; /* bytes of a field, and characters of a line */
 
 /* The next field of the line; the first call is given the line, and each further one NULL. */
 static const char *field(char *line) {

@@ -33,8 +33,22 @@ static bool block() {
     return std::memcmp(block, payload, sizeof payload) == 0 || said("another payload");
 }
 
+static bool pack() {
+    const uint8_t key[BOARDS_KEY_SIZE] = {1}, payload[3] = {0x41, 0x42, 0x43};
+    uint8_t pack[3 * BOARDS_BLOCK_SIZE] = {0};
+    const uint8_t *same = pack;
+    if (boards_find(pack, sizeof pack - 1, 3) != BOARDS_WRONG_PACK_SIZE) return said("found in no whole blocks");
+    if (boards_find(pack, sizeof pack, 3) != BOARDS_PLACE_TOO_HIGH) return said("found past the last block");
+    if (boards_find(pack, sizeof pack, 2) != BOARDS_DONE) return said("not found");
+    uint8_t *part = boards_part(pack, 2);
+    if (part != pack + 1024 || boards_const_part(same, 2) != part) return said("found elsewhere");
+    if (boards_seal(key, sizeof key, payload, sizeof payload, 1, 2, part, BOARDS_BLOCK_SIZE) != BOARDS_DONE)
+        return said("not sealed in the pack");
+    return boards_open(key, sizeof key, 1, 2, part, BOARDS_BLOCK_SIZE) == BOARDS_DONE || said("not opened in the pack");
+}
+
 int main() {
-    if (!hch() || !block()) return 1;
+    if (!hch() || !block() || !pack()) return 1;
     std::printf("%s\n", boards_reason(BOARDS_DONE));
     return 0;
 }

@@ -12,6 +12,7 @@ from harness import Differs, ended
 
 ALONE = {
     "order": "the order of refusals", "opening": "blocks that do not open",
+    "finding": "blocks found in a pack",
     "slices": "where the lent bytes stand",
     "header": "the header's constants and sentences",
     "threads": "eight threads", "wrong": "wrong libraries",

@@ -1,4 +1,4 @@
-/* What the header has beside the four functions. */
+/* What the header has beside the functions of the archive. */
 #include "groups.h"
 #include "report.h"
 #include <boards.h>
@@ -16,6 +16,7 @@ static const struct {
     {"BOARDS_BLOCK_SIZE", BOARDS_BLOCK_SIZE, 512},
     {"BOARDS_PAYLOAD_MAX", BOARDS_PAYLOAD_MAX, 496},
     {"BOARDS_PLACE_MAX", BOARDS_PLACE_MAX, 65535},
+    {"BOARDS_PACK_BLOCKS_MAX", BOARDS_PACK_BLOCKS_MAX, 128},
     {"BOARDS_DONE", BOARDS_DONE, 0},
     {"BOARDS_WRONG_KEY_SIZE", BOARDS_WRONG_KEY_SIZE, 1},
     {"BOARDS_WRONG_TWEAK_SIZE", BOARDS_WRONG_TWEAK_SIZE, 2},
@@ -26,6 +27,7 @@ static const struct {
     {"BOARDS_WRONG_BLOCK_SIZE", BOARDS_WRONG_BLOCK_SIZE, 7},
     {"BOARDS_CHECK_FAILED", BOARDS_CHECK_FAILED, 8},
     {"BOARDS_LINE_NOT_UNDERSTOOD", BOARDS_LINE_NOT_UNDERSTOOD, 9},
+    {"BOARDS_WRONG_PACK_SIZE", BOARDS_WRONG_PACK_SIZE, 10},
 };
 
 static void check_constants(void) {
@@ -37,7 +39,7 @@ static void check_constants(void) {
 }
 
 static void check_reasons(void) {
-    for (uint32_t a = 0; a <= 9; a++) {
+    for (uint32_t a = 0; a <= 10; a++) {
         TRYING("boards_reason(%" PRIu32 ")", a);
         const char *reason = boards_reason(a);
         if (reason == NULL || reason[0] == 0 || reason[strlen(reason) - 1] == '.')
@@ -47,7 +49,7 @@ static void check_reasons(void) {
         }
     }
     for (uint32_t bit = 0; bit < 32; bit++) {
-        uint32_t others[] = {10 + bit, (uint32_t)1 << bit, 0xffffffff >> bit};
+        uint32_t others[] = {11 + bit, (uint32_t)1 << bit, 0xffffffff >> bit};
         for (size_t i = 0; i < COUNT(others); i++) {
             TRYING("boards_reason(%" PRIu32 ")", others[i]);
             if (boards_reason(others[i]) == NULL) DIFFERS("it is NULL");
@@ -68,9 +70,22 @@ static void check_lengths(void) {
     }
 }
 
+/* The parts of the longest pack: each is 512 bytes of it, behind those of the place before. */
+static void check_parts(void) {
+    static uint8_t pack[128 * 512];
+    uint8_t *next = pack;
+    for (uint32_t place = 0; place < 128; place++, next += 512) {
+        TRYING("the part of place %" PRIu32, place);
+        if (boards_part(pack, place) != next) DIFFERS("it does not begin at byte %ld", (long)(next - pack));
+        if (boards_const_part(pack, place) != next) DIFFERS("it is another one where the pack is only read");
+    }
+    if (next != pack + sizeof pack) DIFFERS("the last part does not end with the pack");
+}
+
 void header(void) {
     check_constants();
     check_reasons();
     check_lengths();
+    check_parts();
     printf("version %d.%d, %zu constants\n", BOARDS_VERSION_MAJOR, BOARDS_VERSION_MINOR, COUNT(constants));
 }

@@ -59,8 +59,11 @@ void lent_put(lent *l, const uint8_t *bytes, size_t length, position where) {
 
 void lent_read_only(lent *l) { allow(l, PROT_READ); }
 
+void lent_forbid(lent *l) { allow(l, PROT_NONE); }
+
 void lent_check(lent *l, const uint8_t *bytes) {
     if (l->length > 0) memcpy(l->image + (l->bytes - l->room), bytes, l->length);
+    allow(l, PROT_READ);
     if (memcmp(l->room, l->image, l->size) == 0) return;
     size_t at = 0;
     while (l->room[at] == l->image[at]) at++;

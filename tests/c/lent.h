@@ -35,6 +35,9 @@ void lent_put(lent *l, const uint8_t *bytes, size_t length, position where);
 /* The room may only be read from now on, until the next lent_put. */
 void lent_read_only(lent *l);
 
+/* The room may not even be read from now on, until the next lent_put or lent_check. */
+void lent_forbid(lent *l);
+
 /* The room has to hold these bytes, as many as were lent, and around them what it held: or else it differs. */
 void lent_check(lent *l, const uint8_t *bytes);
 

@@ -1,4 +1,4 @@
 #include "library.h"
 #include <boards.h>
 
-library boards = {boards_encipher, boards_decipher, boards_seal, boards_open};
+library boards = {boards_encipher, boards_decipher, boards_seal, boards_open, boards_find};

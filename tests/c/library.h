@@ -11,11 +11,13 @@ typedef uint32_t seal_function(const uint8_t *key, size_t key_length, const uint
                                uint64_t pack, uint32_t place, uint8_t *block, size_t length);
 typedef uint32_t open_function(const uint8_t *key, size_t key_length, uint64_t pack, uint32_t place, uint8_t *block,
                                size_t length);
+typedef uint32_t find_function(const uint8_t *pack, size_t length, uint32_t place);
 
 typedef struct {
     hch_function *encipher, *decipher;
     seal_function *seal;
     open_function *open;
+    find_function *find;
 } library;
 
 extern library boards;

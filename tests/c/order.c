@@ -10,11 +10,11 @@ enum { MOST = 8192 };
 static uint8_t some[3][MOST], sealed[MOST];
 
 /* together[f][a][b] is set where a call of f was made with the conditions of both numbers. */
-static int together[FUNCTIONS][9][9];
+static int together[FUNCTIONS][NUMBERS][NUMBERS];
 
 static void note(const call *c, int damaged) {
-    for (uint32_t a = 1; a < 9; a++) {
-        for (uint32_t b = 1; b < 9; b++) {
+    for (uint32_t a = 1; a < NUMBERS; a++) {
+        for (uint32_t b = 1; b < NUMBERS; b++) {
             if (applies(a, c, damaged) && applies(b, c, damaged)) together[c->name][a][b] = 1;
         }
     }
@@ -77,12 +77,23 @@ static void refuse_open(void) {
     }
 }
 
+/* Packs as long as those blocks; the group of finding has all lengths of packs. */
+static void refuse_find(void) {
+    call c = {FIND, {NULL, 0}, {NULL, 0}, {NULL, 0}, {some[2], 0}, 0, 0, 0, NULL, 0};
+    for (size_t i = 0; i < COUNT(blocks) * COUNT(places); i++) {
+        size_t rest = i;
+        c.data.length = blocks[take(&rest, COUNT(blocks))];
+        c.place = places[rest];
+        hold_refused(&c, 0);
+    }
+}
+
 /* Whether each two that can hold at once were tried at once: data is never both too short and too long. */
 static void check_pairs(void) {
     for (int f = 0; f < FUNCTIONS; f++) {
         for (int i = 0; i < LOOKS * LOOKS; i++) {
             uint32_t a = looks[f][i / LOOKS], b = looks[f][i % LOOKS];
-            if (together[f][a][b] || (a == 3 && b == 4) || (a == 4 && b == 3)) continue;
+            if (a == 0 || b == 0 || together[f][a][b] || (a == 3 && b == 4) || (a == 4 && b == 3)) continue;
             DIFFERS("%s was not tried with numbers %" PRIu32 " and %" PRIu32 " at once", function_names[f], a, b);
         }
     }
@@ -93,6 +104,7 @@ void order(void) {
     for (uint32_t i = 0; i < 3; i++) fill(some[i], MOST, i);
     fill(sealed, MOST, 3);
     if (boards.seal(some[0], 16, some[1], 100, 1, 3, sealed, 512) != 0) DIFFERS("a good payload is not sealed");
+    refuse_find();
     refuse_open();
     refuse_seal();
     refuse_hch(ENCIPHER);

@@ -7,6 +7,7 @@ says of a refusal with the sentence of its number in the installed boards.h.
 
 import contextlib
 import errno
+import fcntl
 import functools
 import os
 import pathlib
@@ -22,6 +23,8 @@ from harness import (
     ROOT, Differs, Ended, compare, ended, shown, started, wait)
 from pack import LAST_PLACE, MOST, SIZE
 
+BLOCKS = 128  # the most that a pack has
+
 RNG = random.Random("save: a key and boards")
 KEY = RNG.randbytes(16)
 NUMBER = 0x0123456789abcdef
@@ -30,11 +33,11 @@ BOARDS = {f"b{length}": RNG.randbytes(length)
 
 DEFINED = re.compile(r"^#define (BOARDS_\w+) (\d+)\b", re.MULTILINE)
 RETURNED = re.compile(r'case (BOARDS_\w+): return "([^"]+)";')
-REFUSED = (1, 6, 7, 8)  # what the program can meet
+REFUSED = (1, 6, 8, 10)  # what the program can meet
 
-# What the program says in its own words of a place.
-NO_PLACE = "there is no such place in the pack"
+# What the program says in its own words.
 NO_END = "the end of the last board is missing"
+NO_ROOM = "the board does not fit in: a pack has 128 blocks at most"
 NOT_WHOLE = ("a board was not saved whole: the disk is full, or another "
              "program added to the file")
 SAVED = re.compile(rb"\w+: first place (\d+), number of blocks \d+\n")
@@ -103,13 +106,15 @@ class Desk:
     def refusal(self, number, place):
         return said(self.sentence[number], place)
 
-    def report(self, answers):
-        """The lines of check, by what opening each place answers."""
+    def report(self, answers, whole):
+        """The lines of check, by what opening each place answers; it counts
+        the blocks of a pack alone, which is whole blocks."""
         lines = [f"place {place}: "
                  + (self.sentence[answer] if answer else "good")
                  for place, answer in enumerate(answers)]
         bad = sum(answer != 0 for answer in answers)
-        lines.append(f"number of blocks {len(answers)}, not good {bad}")
+        if whole:
+            lines.append(f"number of blocks {len(answers)}, not good {bad}")
         return "".join(line + "\n" for line in lines)
 
     # What it does.
@@ -121,12 +126,11 @@ class Desk:
             saved(name, place + first[name], board)
             for name, board in boards.items()))
 
-    def adds_not(self, stderr, name="b1", start=0, **options):
-        """The board is refused, and the pack file is as it was, or what it
-        holds from a byte on."""
-        before = self.packed(start)
+    def adds_not(self, stderr, name="b1", **options):
+        """The board is refused, and the pack file is as it was."""
+        before = self.packed()
         fails(self.save("add", name, **options), stderr)
-        compare("the pack file after add", before, self.packed(start))
+        self.keeps("add", before)
 
     def gives(self, place, board, **options):
         says(self.save("get", str(place), **options), board)
@@ -134,20 +138,30 @@ class Desk:
     def gives_not(self, place, stderr, **options):
         fails(self.save("get", str(place), **options), stderr)
 
-    def reports(self, answers, end=True, **options):
+    def reports(self, answers, end=True, whole=True, **options):
         """What check says of blocks with these answers, the last of which is
-        the end of a board or not."""
-        error = ("not all blocks are good" if any(answers)
+        the end of a board or not, in a file that is a pack or not."""
+        error = (self.sentence[10] if not whole
+                 else "not all blocks are good" if any(answers)
                  else "" if end else NO_END)
-        says(self.save("check", **options), self.report(answers),
+        says(self.save("check", **options), self.report(answers, whole),
              f"save: pack: {error}\n" if error else "", 1 if error else 0)
+
+    def is_no_pack(self, answers=(), places=(0,)):
+        """Nothing is added to the pack file or given of it, and check says
+        so, after it has looked at the blocks with these answers."""
+        before = self.packed()
+        self.reports(answers, whole=False)
+        for place in places:
+            self.gives_not(place, self.refusal(10, place))
+        fails(self.save("add", "b1"),
+              self.refusal(10, max(0, min(len(before) // SIZE - 1, BLOCKS))))
+        self.keeps("all three", before)
 
     # The pack file.
 
-    def packed(self, start=0):
-        with open(self.pack, "rb") as file:
-            file.seek(start)
-            return file.read()
+    def packed(self):
+        return self.pack.read_bytes()
 
     def keeps(self, what, before):
         compare(f"the pack file after {what}", before, self.packed())
@@ -353,17 +367,20 @@ def key_lengths(desk):
 
 
 def cut(desk):
-    """A pack file that ends within a block: nothing is added, and the boards
-    in front of it are given."""
+    """A pack file that ends within a block, and the same cut back to the end
+    of its last whole board."""
     desk.adds({name: BOARDS[name] for name in ("b1", "b1236")})
     good = desk.packed()
-    for place in (1, 2, 3):
+    for place in range(4):
         for left in (1, SIZE - 1):
             desk.put("pack", good[:SIZE * place + left])
-            desk.reports([0] * place + [7])
-            desk.gives_not(1, desk.refusal(7, place))
-            desk.adds_not(desk.refusal(7, place))
-            desk.gives(0, BOARDS["b1"])
+            desk.is_no_pack([0] * place, (0, place, place + 1, 2**32 - 1))
+    desk.put("pack", changed(good, SIZE)[:-1])
+    desk.is_no_pack([0, 8, 0])
+    desk.put("pack", good[:SIZE])
+    desk.gives(0, BOARDS["b1"])
+    desk.adds({"b1236": BOARDS["b1236"]}, 1)
+    desk.keeps("add", good)
 
 
 def no_end(desk):
@@ -374,7 +391,7 @@ def no_end(desk):
     good = desk.packed()
     for blocks in (2, 3):
         desk.put("pack", good[:SIZE * blocks])
-        desk.gives_not(1, said(NO_PLACE, blocks))
+        desk.gives_not(1, desk.refusal(6, blocks))
         desk.adds_not(said(NO_END, blocks - 1))
         desk.adds_not(said(NO_END, blocks - 1), "b0")
         desk.gives(0, BOARDS["b1"])
@@ -391,78 +408,106 @@ def no_end(desk):
 
 def past_the_end(desk):
     desk.adds({"b1236": BOARDS["b1236"]})
-    for place in (3, 4, 1000, LAST_PLACE, LAST_PLACE + 1, 2**31, 2**32 - 1):
-        desk.gives_not(place, said(NO_PLACE, place))
+    desk.gives(2, BOARDS["b1236"][2 * MOST:])
+    for place in (3, 4, BLOCKS - 1, BLOCKS, BLOCKS + 1, 1000, LAST_PLACE,
+                  LAST_PLACE + 1, LAST_PLACE + 3, 2**31, 2**32 - 1):
+        desk.gives_not(place, desk.refusal(6, place))
+
+
+def empty(desk):
+    """A pack file without a byte is no pack, and adding begins one."""
     desk.put("pack", b"")
-    desk.gives_not(0, said(NO_PLACE, 0))
-    desk.reports([])
-
-
-def hollow(desk, places, length=None):
-    """A pack file of some blocks, with holes between, and of some length."""
-    with open(desk.pack, "wb") as file:
-        for place, payload in places.items():
-            file.seek(SIZE * place)
-            file.write(pack.seal(KEY, payload, NUMBER, place))
-        file.truncate(length)
+    desk.reports([], whole=False)
+    for place in (0, 1, BLOCKS, LAST_PLACE + 1):
+        desk.gives_not(place, desk.refusal(10, place))
+    desk.adds({"b1236": BOARDS["b1236"]})
+    desk.gives(0, BOARDS["b1236"])
 
 
 def last_places(desk):
-    start = SIZE * (LAST_PLACE - 1)
-    hollow(desk, {LAST_PLACE - 1: b""})
-    refusal = desk.refusal(6, LAST_PLACE + 1)
-    for name in ("b496", "b5000"):
-        desk.adds_not(refusal, name, start)
-    desk.adds({"b495": BOARDS["b495"]}, LAST_PLACE)
-    for name in ("b0", "b495", "b496"):
-        desk.adds_not(refusal, name, start)
-    desk.gives(LAST_PLACE - 1, b"")
-    desk.gives(LAST_PLACE, BOARDS["b495"])
-    hollow(desk, {LAST_PLACE - 2: b""})
-    desk.adds({"b496": BOARDS["b496"]}, LAST_PLACE - 1)
-    desk.gives(LAST_PLACE - 1, BOARDS["b496"])
-    desk.adds_not(refusal, "b0", start)
+    """Packs of 127 and 128 blocks: what is left of them takes a board or not,
+    and all of the places 0 to n - 1 are there."""
+    long = RNG.randbytes(MOST * (BLOCKS - 2) + 1)
+    desk.put("long", long)
+    desk.adds({"long": long})
+    full = said(NO_ROOM, BLOCKS)
+    desk.gives_not(BLOCKS - 1, desk.refusal(6, BLOCKS - 1))
+    for name in ("b496", "b5000", "long"):
+        desk.adds_not(full, name)
+    desk.adds({"b495": BOARDS["b495"]}, BLOCKS - 1)
+    for name in ("b0", "b1", "b496"):
+        desk.adds_not(full, name)
+    desk.gives(0, long)
+    desk.gives(BLOCKS - 2, long[-1:])
+    desk.gives(BLOCKS - 1, BOARDS["b495"])
+    for place in (BLOCKS, BLOCKS + 1, 2 * BLOCKS, LAST_PLACE, LAST_PLACE + 1,
+                  2**32 - 1):
+        desk.gives_not(place, desk.refusal(6, place))
+    desk.reports([0] * BLOCKS)
+
+
+def longest_board(desk):
+    """63,487 bytes fill a pack, as the reference seals them. There is no room
+    for a byte more, nor for any other board before it."""
+    board = RNG.randbytes(MOST * BLOCKS - 1)
+    desk.put("longest", board)
+    desk.put("longer", board + b"x")
+    fails(desk.save("add", "longer"), said(NO_ROOM, BLOCKS))
+    desk.keeps("add", b"")
+    desk.adds({"longest": board})
+    desk.keeps("add", b"".join(
+        pack.seal(KEY, payload, NUMBER, place)
+        for place, payload in enumerate(payloads(board))))
+    desk.gives(0, board)
+    desk.pack.unlink()
+    says(desk.save("add", "b1", "longest", "b1"),
+         saved("b1", 0, BOARDS["b1"]), said(NO_ROOM, BLOCKS), 1)
+    desk.reports([0])
+    return f"{len(board)} bytes"
 
 
 def too_long(desk):
-    """A board without its end at the last place, and then more behind it; not
-    every file system has the two longest files."""
-    places = {0: b"", LAST_PLACE: BOARDS["b496"]}
-    full = SIZE * (LAST_PLACE + 1)
-    hollow(desk, places)
-    desk.gives_not(LAST_PLACE, said(NO_PLACE, LAST_PLACE + 1))
-    desk.adds_not(said(NO_END, LAST_PLACE), start=full - SIZE)
-    for length, number in ((full + 1, 7), (full + SIZE, 6),
-                           (SIZE * 2**32, 6), (SIZE * (2**32 + 1), 6)):
-        try:
-            hollow(desk, places, length)
-        except OSError:
-            continue
-        refusal = desk.refusal(number, LAST_PLACE + 1)
-        desk.gives_not(LAST_PLACE, refusal)
-        desk.gives_not(LAST_PLACE + 1, refusal)
-        desk.adds_not(refusal, start=length - SIZE)
+    """128 blocks, a byte less and a byte more, 129 blocks and longer files;
+    not every file system has the longest."""
+    blocks = [pack.seal(KEY, b"", NUMBER, place) for place in range(BLOCKS)]
+    good, next_block = b"".join(blocks), pack.seal(KEY, b"", NUMBER, BLOCKS)
+    desk.put("pack", good)
+    desk.reports([0] * BLOCKS)
+    desk.put("pack", good[:-1])
+    desk.is_no_pack([0] * (BLOCKS - 1), (0, BLOCKS - 1))
+    for more in (next_block[:1], next_block[:-1]):
+        desk.put("pack", good + more)
+        desk.is_no_pack([0] * BLOCKS, (0, BLOCKS - 1, BLOCKS))
+    for more in (next_block, next_block + b"x", 2 * next_block):
+        desk.put("pack", good + more)
+        desk.is_no_pack([], (0, BLOCKS - 1, BLOCKS, BLOCKS + 1))
+    for length in (SIZE * (LAST_PLACE + 1), SIZE * 2**32, SIZE * (2**32 + 1)):
+        with contextlib.suppress(OSError):
+            os.truncate(desk.pack, length)
+        desk.gives_not(0, desk.refusal(10, 0))
+        fails(desk.save("add", "b1"), desk.refusal(10, BLOCKS))
+        desk.reports([], whole=False)
 
 
 def endless(desk):
     """A board without end is refused at the place after the last one, and all
     of the program's room was used by then. The pack file is made, and stays
     empty."""
-    fails(desk.save("add", "/dev/zero"), desk.refusal(6, LAST_PLACE + 1))
+    fails(desk.save("add", "/dev/zero"), said(NO_ROOM, BLOCKS))
     desk.keeps("add", b"")
-    desk.reports([])
     desk.adds({"b1": BOARDS["b1"]})
+    desk.adds_not(said(NO_ROOM, BLOCKS), "/dev/zero")
 
 
 # Programs that add to one pack file at once.
 
 def another_between(desk):
-    """A pipe holds 65,536 bytes: when more have been written to it, the
-    program has begun to read its board, and has looked for its place before.
-    Then another one adds a board."""
-    board = bytes(2**16 + 1)
+    """When more has been written to a pipe than it holds, the program has
+    begun to read its board, and has looked for its place before. Then another
+    one adds a board."""
     desk.adds({"b1": BOARDS["b1"]})
     with desk.begins("add", "/dev/stdin") as process:
+        board = bytes(fcntl.fcntl(process.stdin, fcntl.F_SETPIPE_SZ, 4096) + 1)
         process.stdin.write(board)
         desk.adds({"b1236": BOARDS["b1236"]}, 1)
         fails(finished(process), said(NOT_WHOLE, 1))
@@ -480,7 +525,7 @@ def saved_or_told(desk, name, board, result):
         return True
     told = NOT_SAVED.fullmatch(result.stderr)
     if told is None or told[1].decode("ascii") not in (
-            NOT_WHOLE, NO_END, desk.sentence[7], desk.sentence[8]):
+            NOT_WHOLE, NO_END, desk.sentence[8], desk.sentence[10]):
         raise Differs(f"standard error is {shown(result.stderr)}")
     fails(result, result.stderr)
     return False
@@ -578,16 +623,17 @@ def full_output(desk):
 
 
 def full_pack(desk):
-    """A device that is full, and a file that may grow by less than a board:
-    the program says so, and nothing is added behind what it has left."""
+    """A file that may grow by less than a board: the program says so, and
+    nothing is added behind what it has left. A device that is full is read as
+    zeros without end, and is no pack."""
     fails(desk.save("add", "b5000", pack="/dev/full"),
-          said(NOT_WHOLE, 0, "/dev/full"))
+          said(desk.sentence[10], BLOCKS, "/dev/full"))
     desk.adds({"b1": BOARDS["b1"]})
     good = desk.packed()
-    for room, then in ((SIZE // 2, desk.refusal(7, 1)),
+    for room, then in ((SIZE // 2, desk.refusal(10, 0)),
                        (2 * SIZE, said(NO_END, 2)),
                        (8 * SIZE, said(NO_END, 8)),
-                       (11 * SIZE - 1, desk.refusal(7, 11))):
+                       (11 * SIZE - 1, desk.refusal(10, 10))):
         most = len(good) + room
         fails(desk.save(
             "add", "b5000", restore_signals=False,
@@ -595,9 +641,9 @@ def full_pack(desk):
                 resource.RLIMIT_FSIZE, (most, most))), said(NOT_WHOLE, 1))
         compare("the pack file before that place", good,
                 desk.packed()[:len(good)])
-        desk.gives(0, BOARDS["b1"])
         desk.adds_not(then)
         desk.put("pack", good)
+        desk.gives(0, BOARDS["b1"])
 
 
 RUNS = {
@@ -617,7 +663,9 @@ RUNS = {
     "a pack file cut within a block": cut,
     "a pack file cut within a board": no_end,
     "places past the end": past_the_end,
-    "the places 65,535 and 65,536": last_places,
+    "an empty pack file": empty,
+    "packs of 127 and 128 blocks": last_places,
+    "the longest board": longest_board,
     "pack files that are too long": too_long,
     "a board without end": endless,
     "a board that another program adds meanwhile": another_between,

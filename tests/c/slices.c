@@ -9,10 +9,10 @@
 #include <string.h>
 #include <sys/mman.h>
 
-enum { BOARD = 1000, SIZE = 512, USED = 123 };
+enum { BOARD = 1000, SIZE = 512, USED = 123, PACK = 3 * SIZE }; /* bytes of what is lent to good calls */
 
 static uint8_t key[16], tweak[16], payload[SIZE], board[BOARD], enciphered[BOARD];
-static uint8_t block[SIZE], sealed[SIZE], plain[SIZE];
+static uint8_t block[SIZE], sealed[SIZE], plain[SIZE], pack[PACK];
 
 /* One good call of each function, with what the library itself leaves: the cases hold that to the reference. */
 static void make_good(call good[FUNCTIONS]) {
@@ -21,6 +21,7 @@ static void make_good(call good[FUNCTIONS]) {
     fill(payload, sizeof payload, 3);
     fill(board, BOARD, 4);
     fill(block, SIZE, 5);
+    fill(pack, PACK, 7);
     memcpy(enciphered, board, BOARD);
     uint32_t wrong = boards.encipher(key, 16, tweak, 16, enciphered, BOARD);
     wrong |= boards.seal(key, 16, payload, USED, 1, 2, sealed, SIZE);
@@ -32,6 +33,7 @@ static void make_good(call good[FUNCTIONS]) {
         {DECIPHER, {key, 16}, {tweak, 16}, {NULL, 0}, {enciphered, BOARD}, 0, 0, 0, board, 0},
         {SEAL, {key, 16}, {NULL, 0}, {payload, USED}, {block, SIZE}, 1, 2, 0, sealed, 0},
         {OPEN, {key, 16}, {NULL, 0}, {NULL, 0}, {sealed, SIZE}, 1, 2, 0, plain, USED},
+        {FIND, {NULL, 0}, {NULL, 0}, {NULL, 0}, {pack, PACK}, 0, 2, 0, pack, 0},
     };
     memcpy(good, all, sizeof all);
 }
@@ -82,8 +84,8 @@ static void hold_overlap(void) {
     if (memcmp(all, copy, SIZE) != 0) DIFFERS("what was to be read is changed");
 }
 
-/* The call is refused by the table's number, and leaves its data as it was. */
-static void refuse(const call *c) {
+/* The call answers the table's number, and leaves its data as it was. */
+static void hold_number(const call *c) {
     uint8_t before[SIZE];
     memcpy(before, c->data.bytes, SIZE);
     uint32_t number = answer(c);
@@ -101,9 +103,9 @@ static void hold_longer(const call good[FUNCTIONS], const uint8_t *bytes, size_t
         with_key.key = (slice){bytes, with_key.key.length + more};
         *other = (slice){bytes, other->length + more};
         with_data.data = (slice){bytes, with_data.data.length + more};
-        refuse(&with_key);
-        if (f != OPEN) refuse(&with_other);
-        refuse(&with_data);
+        hold_number(&with_data);
+        if (f != FIND) hold_number(&with_key);
+        if (f != FIND && f != OPEN) hold_number(&with_other);
     }
 }
 
@@ -118,11 +120,11 @@ static size_t hold_lengths(const call good[FUNCTIONS]) {
     size_t longest = 0;
     for (size_t i = 0; i < COUNT(more); i++) {
         uint8_t *bytes =
-            mmap(NULL, more[i] + BOARD, PROT_READ | PROT_WRITE, MAP_PRIVATE | MAP_ANONYMOUS | MAP_NORESERVE, -1, 0);
+            mmap(NULL, more[i] + PACK, PROT_READ | PROT_WRITE, MAP_PRIVATE | MAP_ANONYMOUS | MAP_NORESERVE, -1, 0);
         if (bytes == MAP_FAILED) break;
         hold_longer(good, bytes, more[i]);
-        munmap(bytes, more[i] + BOARD);
-        longest = more[i] + BOARD;
+        munmap(bytes, more[i] + PACK);
+        longest = more[i] + PACK;
     }
     return longest;
 }

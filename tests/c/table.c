@@ -1,6 +1,8 @@
 #include "table.h"
 
-const uint32_t looks[FUNCTIONS][LOOKS] = {{1, 2, 3, 4}, {1, 2, 3, 4}, {1, 7, 5, 6}, {1, 7, 6, 8}};
+const uint32_t looks[FUNCTIONS][LOOKS] = {
+    {1, 2, 3, 4}, {1, 2, 3, 4}, {1, 7, 5, 6}, {1, 7, 6, 8}, {10, 6},
+};
 
 int applies(uint32_t number, const call *c, int damaged) {
     switch (number) {
@@ -9,9 +11,11 @@ int applies(uint32_t number, const call *c, int damaged) {
     case 3: return c->data.length < 16;
     case 4: return c->data.length > 4096;
     case 5: return c->payload.length > 496;
-    case 6: return c->place > 65535;
+    case 6: return c->place >= (c->name == FIND ? c->data.length / 512 : 65536);
     case 7: return c->data.length != 512;
-    default: return damaged;
+    case 8: return damaged;
+    case 10: return c->data.length < 512 || c->data.length > 128 * 512 || c->data.length % 512 != 0;
+    default: return 0;
     }
 }
 

@@ -4,9 +4,10 @@
 
 #include "call.h"
 
-enum { LOOKS = 4 };
+enum { LOOKS = 4, NUMBERS = 11 }; /* the most of one function; and all of them, with 0 */
 
-/* "HCH looks at 1, 2, 3, 4 in this order. Sealing looks at 1, 7, 5, 6. Opening looks at 1, 7, 6, 8." */
+/* "HCH looks at 1, 2, 3, 4 in this order. Sealing looks at 1, 7, 5, 6. Opening looks at 1, 7, 6, 8." In 02, finding
+   looks at 10 first, and at 6 next. A 0 stands where a function has no more. */
 extern const uint32_t looks[FUNCTIONS][LOOKS];
 
 /* Whether the condition of this number holds; a damaged block is one that fails its check. */

@@ -1,20 +1,27 @@
-/* Eight threads at once, each on bytes of its own, leave what one thread leaves that did the same work before. Each
-   has the smallest stack that the system allows, so that it is seen that a call needs little. */
+/* Eight threads at once, each on bytes of its own and on its own block of one pack, leave what one thread leaves that
+   did the same work before. Each has the smallest stack that the system allows, so that it is seen that a call needs
+   little. */
 #define _POSIX_C_SOURCE 200809L
 #include "call.h"
 #include "groups.h"
 #include "library.h"
 #include "report.h"
+#include <boards.h>
 #include <limits.h>
 #include <pthread.h>
 #include <string.h>
 
-enum { THREADS = 8, ROUNDS = 100, BOARD = 4096, SIZE = 512, SIGNALS = 65536 };
+enum { THREADS = 8, ROUNDS = 100, BOARD = 4096, SIZE = 512, SIGNALS = 65536, CALLS = 8 };
+
+/* What the calls of a round answer. */
+static const uint32_t numbers[CALLS] = {0, 0, 0, 0, 8, 1, 0, 0};
 
 typedef struct {
-    uint32_t numbers[6];
-    uint8_t enciphered[BOARD], deciphered[BOARD], sealed[SIZE], opened[SIZE];
+    uint32_t numbers[CALLS];
+    uint8_t enciphered[BOARD], deciphered[BOARD], sealed[SIZE], opened[SIZE], part[SIZE];
 } result;
+
+static uint8_t shared[THREADS * SIZE]; /* a pack, in which each thread has the place of its seed */
 
 typedef struct {
     uint32_t seed;
@@ -24,7 +31,7 @@ typedef struct {
     result results[ROUNDS];
 } work;
 
-/* Two boards, two blocks and two refusals. */
+/* Two boards, two blocks, two refusals, and a block found in the pack and sealed there. */
 static void do_round(work *w, uint32_t round) {
     result *r = &w->results[round];
     uint32_t seed = w->seed * ROUNDS + round, place = seed * 7 % 65536;
@@ -42,6 +49,10 @@ static void do_round(work *w, uint32_t round) {
     r->numbers[3] = boards.open(w->key, 16, pack, place, r->opened, SIZE);
     r->numbers[4] = boards.open(w->key, 16, pack + 1, place, r->sealed, SIZE);
     r->numbers[5] = boards.encipher(w->key, 15, w->tweak, 16, r->enciphered, length);
+    r->numbers[6] = boards.find(shared, sizeof shared, w->seed);
+    uint8_t *part = boards_part(shared, w->seed);
+    r->numbers[7] = boards.seal(w->key, 16, w->payload, used, pack, w->seed, part, SIZE);
+    memcpy(r->part, part, SIZE);
 }
 
 static void *do_work(void *given) {
@@ -65,7 +76,6 @@ static work *new_work(uint32_t seed, pthread_barrier_t *start) {
 }
 
 static void compare(const work *alone, const work *together) {
-    static const uint32_t numbers[6] = {0, 0, 0, 0, 8, 1};
     for (int round = 0; round < ROUNDS; round++) {
         const result *one = &alone->results[round], *other = &together->results[round];
         if (memcmp(one->numbers, numbers, sizeof numbers) != 0) DIFFERS("round %d, alone: other answers", round);
@@ -102,5 +112,5 @@ void threads(void) {
         TRYING("thread %d of eight", i);
         compare(alone[i], together[i]);
     }
-    printf("%d calls in each thread, on a stack of %ld bytes\n", 6 * ROUNDS, (long)PTHREAD_STACK_MIN);
+    printf("%d calls in each thread, on a stack of %ld bytes\n", CALLS * ROUNDS, (long)PTHREAD_STACK_MIN);
 }

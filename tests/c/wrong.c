@@ -21,6 +21,8 @@ static volatile uint8_t seen;
 #define SEAL key, k, payload, u, pack, place, block, n
 #define OPEN_CALL const uint8_t *key, size_t k, uint64_t pack, uint32_t place, uint8_t *block, size_t n
 #define OPEN key, k, pack, place, block, n
+#define FIND_CALL const uint8_t *pack, size_t n, uint32_t place
+#define FIND pack, n, place
 
 static uint32_t read_past_key(HCH_CALL) {
     seen = key[k];
@@ -149,6 +151,52 @@ static uint32_t large_stack(OPEN_CALL) {
     return right.open(OPEN) + much[0];
 }
 
+static uint32_t read_pack(FIND_CALL) {
+    if (n > 0) seen = pack[n - 1];
+    return right.find(FIND);
+}
+
+static uint32_t write_pack(FIND_CALL) {
+    uint32_t number = right.find(FIND);
+    if (number == 0) ((uint8_t *)pack)[512 * place] ^= 1;
+    return number;
+}
+
+static uint32_t find_set_errno(FIND_CALL) {
+    errno = 0;
+    return right.find(FIND);
+}
+
+static uint32_t always_found(FIND_CALL) { return (void)pack, (void)n, (void)place, 0; }
+
+static uint32_t never_found(FIND_CALL) { return (void)pack, (void)n, (void)place, 10; }
+
+static uint32_t seven_for_ten(FIND_CALL) { return right.find(FIND) == 10 ? 7 : right.find(FIND); }
+
+static uint32_t find_in_empty(FIND_CALL) { return n == 0 && place == 0 ? 0 : right.find(FIND); }
+
+static uint32_t place_of_empty(FIND_CALL) { return n == 0 ? 6 : right.find(FIND); }
+
+static uint32_t find_in_129(FIND_CALL) { return n == 129 * 512 && place < 129 ? 0 : right.find(FIND); }
+
+static uint32_t not_in_128(FIND_CALL) { return n == 128 * 512 ? 10 : right.find(FIND); }
+
+static uint32_t find_in_cut(FIND_CALL) { return right.find(pack, n - n % 512, place); }
+
+static uint32_t find_in_511(FIND_CALL) { return right.find(pack, n % 511 == 0 ? n / 511 * 512 : n, place); }
+
+static uint32_t place_before_pack(FIND_CALL) { return place >= n / 512 ? 6 : right.find(FIND); }
+
+static uint32_t find_place_n(FIND_CALL) { return right.find(pack, n, place == n / 512 ? 0 : place); }
+
+static uint32_t not_last_place(FIND_CALL) { return right.find(pack, n, place + 1 == n / 512 ? place + 1 : place); }
+
+static uint32_t find_all_places(FIND_CALL) { return right.find(pack, n, place > 65535 ? place : 0); }
+
+static uint32_t find_place_of_16_bits(FIND_CALL) { return right.find(pack, n, place & 0xffff); }
+
+static uint32_t pack_by_32_bits(FIND_CALL) { return right.find(pack, (uint32_t)n, place); }
+
 /* What is wrong, the group that has to report it, and words of that report. */
 static const struct {
     const char *name;
@@ -184,6 +232,24 @@ static const struct {
     {"enciphers wrongly", {.encipher = other_bytes}, opening, "of the data"},
     {"takes the key for aligned", {.encipher = aligned_key}, slices, "lent at an odd address"},
     {"sets errno", {.seal = set_errno}, slices, "sets errno to 0"},
+    {"reads the pack", {.find = read_pack}, slices, "at byte 1535 of the pack"},
+    {"writes the pack", {.find = write_pack}, slices, "at byte 1024 of the pack"},
+    {"finding, sets errno", {.find = find_set_errno}, slices, "sets errno to 0"},
+    {"finds always", {.find = always_found}, finding, "answers 0 in the place of 10"},
+    {"never finds", {.find = never_found}, finding, "answers 10 in the place of 0"},
+    {"has 7 in the place of 10", {.find = seven_for_ten}, order, "answers 7 in the place of 10"},
+    {"finds in an empty pack", {.find = find_in_empty}, finding, "find(pack of 0, place 0)"},
+    {"misses a place in an empty pack", {.find = place_of_empty}, order, "answers 6 in the place of 10"},
+    {"finds in a pack of 129", {.find = find_in_129}, finding, "find(pack of 66048, place 0)"},
+    {"does not find in a pack of 128", {.find = not_in_128}, finding, "find(pack of 65536, place 0)"},
+    {"finds in a pack that is cut", {.find = find_in_cut}, finding, "find(pack of 513, place 0)"},
+    {"has blocks of 511 bytes", {.find = find_in_511}, finding, "find(pack of 511, place 0)"},
+    {"finding, has 6 before 10", {.find = place_before_pack}, order, "answers 6 in the place of 10"},
+    {"finds the place n", {.find = find_place_n}, finding, "find(pack of 512, place 1)"},
+    {"does not find the last place", {.find = not_last_place}, finding, "answers 6 in the place of 0"},
+    {"finds each place up to 65,535", {.find = find_all_places}, order, "answers 0 in the place of 6"},
+    {"finds a place by its last 16 bits", {.find = find_place_of_16_bits}, order, "answers 0 in the place of 6"},
+    {"takes a pack by its length's last 32 bits", {.find = pack_by_32_bits}, slices, "answers 0 in the place of 10"},
     {"has one key for all threads", {.encipher = one_key_for_all}, threads, "other bytes"},
     {"needs a large stack", {.open = large_stack}, threads, "fault"},
 };
@@ -194,6 +260,7 @@ static void put_in_place(const library *l) {
     if (l->decipher != NULL) boards.decipher = l->decipher;
     if (l->seal != NULL) boards.seal = l->seal;
     if (l->open != NULL) boards.open = l->open;
+    if (l->find != NULL) boards.find = l->find;
 }
 
 /* In a process of its own, which the report ends; the report goes into the text. */
