@@ -120,24 +120,22 @@ def line_cases():
         yield bad, NO
     yield x_case(draw())
 
-    # About the longest line. The first two would be sums, were they not cut
-    # off inside a block; the third is one, and too long for that alone.
-    blocks = b"s" + (b" " + a) * 2200
-    for bad in (blocks[:LONGEST], blocks[:LONGEST + 1],
-                blocks[:1 + 33 * (MOST_BLOCKS + 2)]):
+    # About the longest line. The first would be a sum, were it not cut off
+    # inside a block; the second is one, and too long for that alone.
+    blocks = b"s" + (b" " + a) * (MOST_BLOCKS + 2)
+    assert len(blocks) == LONGEST + 1
+    for bad in (blocks[:LONGEST], blocks):
         yield bad, NO
         yield m_case(draw(), draw())
 
     # One line, and one answer, also where its first or its last characters
-    # would be a good line by themselves.
+    # would be a good line by themselves. The last goes on for more than the
+    # 65,536 bytes that are read at a time.
     good = b"x " + a
     for bad in (
-        b"q" * LONGEST,
-        b"q" * (LONGEST + 1),
-        good.ljust(LONGEST),
         good.ljust(LONGEST + 1),
         b"q" * LONGEST + good,
-        blocks[:70000],
+        b"q" * (LONGEST + 70000) + good,
     ):
         yield bad, NO
         yield m_case(draw(), draw())

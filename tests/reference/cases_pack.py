@@ -298,9 +298,10 @@ def refusal_cases():
     yield refused(7, po_case(key, pack, place, bytes(511)))
     yield from pair(key, pack, place, payload[:17])
 
-    # The longest lines that are understood.
-    yield refused(5, ps_case(key, pack, place, draw(MOST_BYTES - 16)))
-    yield refused(1, po_case(draw(MOST_BYTES), pack, place, b""))
+    # The longest line that is understood.
+    longest = ps_case(key, pack, place, draw(MOST_BYTES - 16))
+    assert len(longest[0]) == LONGEST
+    yield refused(5, longest)
     yield from pair(key, pack, place, payload[:16])
 
 
@@ -362,10 +363,6 @@ def line_cases():
         yield name + b" " + good, NO
     yield ps_case(draw(16), pack, place, draw(34))
 
-    # One byte more than the longest line holds.
-    bad = line("ps", k, n, p, "00" * (MOST_BYTES - 15))
-    assert len(bad) == LONGEST + 2
-    yield bad, NO
     # Understood: a line that ends in the space before an empty field.
     yield refused(7, po_case(key, pack, place, b""))
     yield from pair(key, pack, place, b"")

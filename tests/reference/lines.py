@@ -8,7 +8,7 @@ or is longer, answers NO once.
 
 import random
 
-LONGEST = 16384
+LONGEST = 135168  # the digits of 132 blocks of 512 bytes
 NO = b"no"
 
 

@@ -22,13 +22,15 @@ sys.dont_write_bytecode = True  # --check is to write nothing at all
 import cases_aes  # noqa: E402
 import cases_boardline  # noqa: E402
 import cases_field  # noqa: E402
+import cases_finding  # noqa: E402
 import cases_hch  # noqa: E402
 import cases_lent  # noqa: E402
 import cases_pack  # noqa: E402
 from lines import NO  # noqa: E402
 
 PROGRAMS = {
-    "vectors": [cases_field, cases_aes, cases_hch, cases_pack, cases_lent],
+    "vectors": [cases_field, cases_aes, cases_hch, cases_pack, cases_finding,
+                cases_lent],
     "boardline": [cases_boardline],
 }
 

@@ -5,10 +5,19 @@ ghost use Prim.Native.Nat.{ℕ, _*_, _≤_, _<_};
 ghost use lib.ListN.{length};
 ghost use Rattle.text.specs.declared.hex.Decoded.the-variants.{Bytes};
 ghost use Rattle.vectors.specs.declared.fields.Two.the-variants.{Lengths};
+use crate::BYTES;
 use crate::LIMIT;
 use blocks::block::Block;
 use libc::STDOUT_FILENO;
 use text::hex::Decoded;
+
+// Zeros, as room for the bytes of a field. The `ensures` gives only the length, which lending the array as a slice needs: the proof of
+// a function that made the array would count its elements.
+pub(crate) fn room() -> [u8; BYTES]
+    ensures { λ r. ⌜ 67584 ≡ length r ⌝ }
+{
+    [0u8; BYTES]
+}
 
 // Decodes the blocks that stand in `line`, one space between two, to the front of `data`, and answers
 // the number of their bytes. A field that is not a block is refused, and so is one block more than

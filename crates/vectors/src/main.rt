@@ -11,16 +11,19 @@
 //     hd k t d        d deciphered
 //     ps k p n d      d sealed under the key k as the payload of the block at the place n of the pack p
 //     po k p n b      the block b opened: the payload's length in decimal, a space, the plain block
+//     pf c n          the block at the place n of the pack c, which is found and not opened
 //     le k t d        as `he`, on the lent message d
 //     ld k t d        as `hd`
 //     ls k p n d b    as `ps`, into the lent block b
 //     lo k p n b      as `po`, on the lent block b
+//     lf c n b        b written to the front of the block at the place n of the lent pack c, cut where that ends
 //
-// p has 16 digits and n has 8. The fields k, t, d and b of the last eight may have any length, and be
+// p has 16 digits and n has 8. The fields k, t, d, b and c of the last ten may have any length, and be
 // empty; those of the others are blocks. What HCH or the pack refuses is answered `no` and the number
-// of the reason. The last four answer the call's number, 0 where it was done, a space, and all the
+// of the reason. The last five answer the call's number, 0 where it was done, a space, and all the
 // lent bytes as the call leaves them.
 mod fields;
+mod finding;
 mod message;
 mod sealing;
 
@@ -32,8 +35,9 @@ use primitives::field;
 use text::hex::Decoded;
 use text::part::Kept;
 
-// The most characters that a line may have in front of its line feed.
-const LIMIT: usize = 16384;
+// The most characters that a line may have in front of its line feed: the digits of 132 blocks of 512 bytes, as lines with a pack
+// of more than 128 are to be understood.
+const LIMIT: usize = 135168;
 
 // The most bytes that the digits of a line stand for.
 const BYTES: usize = LIMIT / 2;
@@ -108,15 +112,23 @@ fn reply(line: &[u8]) -> bool {
     run(&line[0..end], &line[next..])
 }
 
-// A command on the rest of its line: those of HCH and of a pack begin with a key, all others read blocks.
+// A command on the rest of its line: those of HCH and of a pack begin with a key, but for the two that find, and all others read
+// blocks.
 fn run(command: &[u8], rest: &[u8]) -> bool {
     if command.len() == 2 {
         let scheme = command[0];
+        let way = command[1];
+        if scheme == b'p' && way == b'f' {
+            return finding::reply(rest);
+        }
+        if scheme == b'l' && way == b'f' {
+            return finding::reply_lent(rest);
+        }
         if scheme == b'h' || scheme == b'p' || scheme == b'l' {
-            return run_keyed(scheme, command[1], rest);
+            return run_keyed(scheme, way, rest);
         }
     }
-    let mut data = [0u8; BYTES];
+    let mut data = fields::room();
     let Decoded::Bytes(n) = fields::blocks_from(rest, &mut data) else {
         return false;
     };
@@ -125,7 +137,7 @@ fn run(command: &[u8], rest: &[u8]) -> bool {
 
 // A command under a key of any length. Those of `l` are of HCH or of a pack, as the second letter says.
 fn run_keyed(scheme: u8, way: u8, rest: &[u8]) -> bool {
-    let mut key = [0u8; BYTES];
+    let mut key = fields::room();
     let Decoded::Bytes(n) = text::hex::decode_field(rest, b' ', &mut key) else {
         return false;
     };

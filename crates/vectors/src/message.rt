@@ -1,12 +1,11 @@
 // The commands of HCH: a key, a tweak and a message, each of any length.
-use crate::BYTES;
 use crate::fields;
 use crate::fields::Two;
 
 // Answers a command of HCH behind its key and says so, or writes nothing.
 pub(crate) fn reply(lent: bool, way: u8, key: &[u8], rest: &[u8]) -> bool {
-    let mut tweak = [0u8; BYTES];
-    let mut message = [0u8; BYTES];
+    let mut tweak = fields::room();
+    let mut message = fields::room();
     let Two::Lengths(t, n) = fields::decode_two(rest, &mut tweak, &mut message) else {
         return false;
     };

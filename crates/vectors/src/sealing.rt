@@ -1,5 +1,4 @@
 // The commands of a pack: a key, the number of the pack, a place, and a payload to seal or a block to open.
-use crate::BYTES;
 use crate::fields;
 use crate::fields::Two;
 use blocks::block::Block;
@@ -31,7 +30,7 @@ fn run(lent: bool, way: u8, key: &[u8], pack: u64, place: u32, rest: &[u8]) -> b
     if lent && way == b's' {
         return seal_lent(key, pack, place, rest);
     }
-    let mut bytes = [0u8; BYTES];
+    let mut bytes = fields::room();
     let Decoded::Bytes(n) = text::hex::decode(rest, &mut bytes) else {
         return false;
     };
@@ -48,8 +47,8 @@ fn run(lent: bool, way: u8, key: &[u8], pack: u64, place: u32, rest: &[u8]) -> b
 
 // Seals the payload at the front of the line into the lent block behind it.
 fn seal_lent(key: &[u8], pack: u64, place: u32, rest: &[u8]) -> bool {
-    let mut payload = [0u8; BYTES];
-    let mut block = [0u8; BYTES];
+    let mut payload = fields::room();
+    let mut block = fields::room();
     let Two::Lengths(u, n) = fields::decode_two(rest, &mut payload, &mut block) else {
         return false;
     };

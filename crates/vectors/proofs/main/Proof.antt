@@ -8,7 +8,7 @@ use Rattle.vectors.proofs.main.Statement.{statement}
 use Rattle.vectors.proofs.main.Tie as tie
 
 abbrev Inv-loop : tie.InvT-loop
-Inv-loop line₀ chunk₀ kept₀ turns₀ line chunk kept turns = (length line ≡ 16384) × (length chunk ≡ 65536)
+Inv-loop line₀ chunk₀ kept₀ turns₀ line chunk kept turns = (length line ≡ 135168) × (length chunk ≡ 65536)
 
 abbrev μ-loop : tie.MeasureT-loop
 μ-loop line₀ chunk₀ kept₀ turns₀ line chunk kept turns = turns

@@ -12,11 +12,14 @@ use Rattle.vectors.proofs.run_keyed.Tie as tie
 
 -- what the answer tells of the field in front of the space
 told-field : (c : tie.After-known-told)
-    → let n = c .before .n .given .0 .0 in (2 * n < length (now (c .before .before .before .before .before .before .before .args .rest))) × (n ≤ 8192)
+    → let n = c .before .n .given .0 .0 in (2 * n < length (now (c .before .before .before .before .before .before .before .before .args .rest))) × (n ≤ 67584)
 told-field c =
     let decoded = c .before .before .before .before in
-    let f = field-is 32 (now (decoded .before .before .before .args .rest)) _ (c .before .n .given .0 .0) (sym (decoded .decode-field .ensures .0) ∙ c .before .n .given .1) in
-    (f .2, f .3)
+    let f = field-is 32 (now (decoded .before .before .before .before .args .rest)) _ (c .before .n .given .0 .0) (sym (decoded .decode-field .ensures .0) ∙ c .before .n .given .1) in
+    (f .2, omega (arith, f .3))
+
+room-requires : tie.Need-room-requires
+room-requires c κs = search needs
 
 slice-aggregate-decode-field : tie.Need-slice-aggregate-decode-field
 slice-aggregate-decode-field c = search needs
@@ -73,6 +76,7 @@ pub run-keyed-spec : {M : Type 1} → statement M
 run-keyed-spec =
     tie.close
     (tie.spec
+    room-requires
     slice-aggregate-decode-field
     decode-field-requires
     enum-known-n

@@ -13,6 +13,9 @@ seal-lent-requires c κs = search needs
 returns : tie.Need-returns
 returns c = search needs
 
+room-requires : tie.Need-room-requires
+room-requires c κs = search needs
+
 slice-aggregate-decode : tie.Need-slice-aggregate-decode
 slice-aggregate-decode c = search needs
 
@@ -74,6 +77,7 @@ run-spec =
     (tie.spec
     seal-lent-requires
     returns
+    room-requires
     slice-aggregate-decode
     decode-requires
     enum-known-n

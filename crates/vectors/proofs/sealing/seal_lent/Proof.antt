@@ -5,6 +5,12 @@ use native.Mathlib.Omega.{arith}
 use Rattle.vectors.proofs.sealing.seal_lent.Statement.{statement}
 use Rattle.vectors.proofs.sealing.seal_lent.Tie as tie
 
+room-requires : tie.Need-room-requires
+room-requires c κs = search needs
+
+room-requires-2 : tie.Need-room-requires-2
+room-requires-2 c κs = search needs
+
 slice-aggregate-decode-two : tie.Need-slice-aggregate-decode-two
 slice-aggregate-decode-two c = search needs
 
@@ -55,6 +61,8 @@ pub seal-lent-spec : {M : Type 1} → statement M
 seal-lent-spec =
     tie.close
     (tie.spec
+    room-requires
+    room-requires-2
     slice-aggregate-decode-two
     slice-aggregate-decode-two-2
     decode-two-requires
