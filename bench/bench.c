@@ -1,5 +1,6 @@
-/* Times the library beside careful and plain C, and sealing and opening beside the library's HCH alone, turn by turn in one run, and
-   prints the times of one call, and the library's over each: below 1 the library is faster than the C; for sealing and opening 1 is HCH itself. */
+/* Times the library beside careful and plain C, sealing and opening beside the library's HCH alone, and those of a run beside one-block calls, turn
+   by turn in one run, and prints the times of one call, and the library's over each: below 1 the library is faster than the C, and a run than its
+   blocks one by one; for sealing and opening of a block 1 is HCH itself. */
 #define _POSIX_C_SOURCE 199309L
 #include "aes.h"
 #include "careful.h"
@@ -15,7 +16,7 @@ void bench_aes_encipher(const uint32_t words[44], uint8_t *data, size_t length);
 void bench_aes_decipher(const uint32_t words[44], uint8_t *data, size_t length);
 void bench_product(const uint8_t *a, size_t a_length, uint8_t *data, size_t length);
 
-enum { TURNS = 600, ROWS = 9, SIDES = 3 };
+enum { TURNS = 600, ROWS = 9, SIDES = 3, BLOCKS = 40, RUN = BLOCKS * 512, MOST = RUN + 512 };
 
 static const uint8_t key[16] = {0x2b, 0x7e, 0x15, 0x16, 0x28, 0xae, 0xd2, 0xa6, 0xab, 0xf7, 0x15, 0x88, 0x09, 0xcf, 0x4f, 0x3c};
 static const uint8_t tweak[16] = {1};
@@ -89,6 +90,41 @@ static void decipher_alone(uint8_t *data, size_t length) {
     done(boards_decipher(key, 16, block_tweak, 16, data, length));
 }
 
+/* A run of 40 blocks from place 258 on, in one call and block by block. What is compared is the run and the list behind it. Each side that seals first
+   puts the payloads where it needs them: in the run, or apart from it. */
+static uint8_t payload_run[RUN], payloads[RUN], sealed_run[RUN];
+static uint16_t lengths[BLOCKS];
+
+static void prepare_run(void) {
+    for (int i = 0; i < RUN; i++) payload_run[i] = (uint8_t)(7 * i + i / 512 + 1);
+    for (int i = 0; i < BLOCKS; i++) lengths[i] = (uint16_t)((28 + 53 * i) % 497);
+}
+static void seal_run(uint8_t *data, size_t length) {
+    (void)length;
+    memcpy(data, payload_run, RUN);
+    done(boards_seal_run(key, 16, 1, 258, lengths, BLOCKS, data, RUN));
+}
+static void seal_one_by_one(uint8_t *data, size_t length) {
+    (void)length;
+    memcpy(payloads, payload_run, RUN);
+    for (uint32_t i = 0; i < BLOCKS; i++) done(boards_seal(key, 16, payloads + 512 * i, lengths[i], 1, 258 + i, data + 512 * i, 512));
+}
+static void open_run(uint8_t *data, size_t length) {
+    uint32_t failed;
+    (void)length;
+    memcpy(data, sealed_run, RUN);
+    done(boards_open_run(key, 16, 1, 258, (uint16_t *)(data + RUN), BLOCKS, data, RUN, &failed));
+}
+static void open_one_by_one(uint8_t *data, size_t length) {
+    uint16_t *list = (uint16_t *)(data + RUN);
+    (void)length;
+    memcpy(data, sealed_run, RUN);
+    for (uint32_t i = 0; i < BLOCKS; i++) {
+        done(boards_open(key, 16, 1, 258 + i, data + 512 * i, 512));
+        list[i] = (uint16_t)boards_payload_length(data + 512 * i);
+    }
+}
+
 static double now(void) {
     struct timespec t;
     clock_gettime(CLOCK_MONOTONIC, &t);
@@ -124,7 +160,7 @@ static void sum_up(double times[SIDES][TURNS], result *of) {
    stands elsewhere, for that alone is worth some per cent. The first call of each side in a turn, which finds the caches cold, is not timed.
    In every turn all sides of a row are to leave the same bytes. */
 static void measure(const row *rows, int count, result results[]) {
-    static uint8_t data[ROWS][SIDES][4096];
+    static uint8_t data[ROWS][SIDES][MOST];
     static double times[ROWS][SIDES][TURNS];
     memset(data, 1, sizeof data); /* not 0, for the product would stay 0 */
     for (int turn = 0; turn < TURNS; turn++) {
@@ -166,6 +202,18 @@ static const row beside_alone[] = {
     {"opening 496 bytes", 512, 32, {open_block, decipher_alone}},
 };
 
+static const row beside_blocks[] = {
+    {"sealing 40 blocks", RUN + sizeof lengths, 2, {seal_run, seal_one_by_one}},
+    {"opening 40 blocks", RUN + sizeof lengths, 2, {open_run, open_one_by_one}},
+};
+
+/* Rows of two sides, under the names of the first, of the second and of their ratio. */
+static void print_two(const row *rows, int count, const result results[], const char *one, const char *other, const char *ratio) {
+    printf("\n%-30s %9s %9s %16s\n", "nanoseconds a call", one, other, ratio);
+    for (int i = 0; i < count; i++)
+        printf("%-30s %9.0f %9.0f %16.2f\n", rows[i].name, results[i].time[0], results[i].time[1], results[i].ratio[1]);
+}
+
 static void print_growth(const char *name, const result *at_512, const result *at_4096) {
     printf("%-30s", name);
     for (int side = 0; side < SIDES; side++) printf(" %9.2f", at_4096->time[side] / at_512->time[side]);
@@ -194,7 +242,11 @@ int main(void) {
     measure(beside_alone, 2, results);
     prepare(496);
     measure(beside_alone + 2, 2, results + 2);
-    printf("\n%-30s %9s %9s %16s\n", "nanoseconds a call", "library", "HCH alone", "library/alone");
-    for (int i = 0; i < 4; i++) printf("%-30s %9.0f %9.0f %16.2f\n", beside_alone[i].name, results[i].time[0], results[i].time[1], results[i].ratio[1]);
+    print_two(beside_alone, 4, results, "library", "HCH alone", "library/alone");
+
+    prepare_run();
+    seal_one_by_one(sealed_run, RUN);
+    measure(beside_blocks, 2, results);
+    print_two(beside_blocks, 2, results, "one call", "40 calls", "one/40 calls");
     return 0;
 }

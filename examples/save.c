@@ -3,9 +3,10 @@
  *
  *     cc -I PREFIX/include -o save save.c -L PREFIX/lib -lboards
  *
- *     save KEYFILE PACKNUMBER PACKFILE add BOARD...    seals each file BOARD behind what the pack file holds
- *     save KEYFILE PACKNUMBER PACKFILE get PLACE       writes the board that begins at the place to standard output
- *     save KEYFILE PACKNUMBER PACKFILE check           says of each place whether its block is good
+ *     save KEYFILE PACKNUMBER PACKFILE add BOARD...           seals each file BOARD behind what the pack file holds
+ *     save KEYFILE PACKNUMBER PACKFILE get PLACE              writes the board that begins there to standard output
+ *     save KEYFILE PACKNUMBER PACKFILE chapter PLACE BOARD... writes the boards from there on to new files, in one go
+ *     save KEYFILE PACKNUMBER PACKFILE check                  says of each place whether its block is good
  *
  * KEYFILE holds the 16 bytes of the key, and PACKNUMBER is a number of up to 64 bits. The pack file is a pack of 1 to
  * 128 blocks; add begins it where it is empty or missing. A board is a file, cut into payloads of 496 bytes. Its last
@@ -91,23 +92,30 @@ static size_t open_block(uint32_t place) {
     return boards_payload_length(find(place));
 }
 
+/* Reads a board into the pack from a place on, each payload to the front of its block, and seals these blocks as a run.
+   Gives the number of blocks. */
+static uint32_t seal_board(FILE *board, uint32_t first) {
+    uint16_t lengths[BOARDS_RUN_BLOCKS_MAX];
+    uint32_t count = 0, place = first;
+    do {
+        need_at(place, place < BOARDS_PACK_BLOCKS_MAX, "the board does not fit in: a pack has 128 blocks at most");
+        pack_length += BOARDS_BLOCK_SIZE; /* the pack has a block more, which is found then */
+        lengths[count] = (uint16_t)fread(find(place++), 1, BOARDS_PAYLOAD_MAX, board);
+    } while (lengths[count++] == BOARDS_PAYLOAD_MAX);
+    uint32_t answer = boards_seal_run(key, key_length, pack_number, first, lengths, count, find(first),
+                                      (size_t)count * BOARDS_BLOCK_SIZE);
+    need_at(first, answer == BOARDS_DONE, boards_reason(answer));
+    return count;
+}
+
 /* Seals all of a board before any of it is written: if it is refused, the pack file holds what it held. The last block
    that it holds has to be good and the end of a board: nothing is added behind half a board, nor under another key or
    pack number. */
 static void add(const char *name) {
-    uint8_t payload[BOARDS_PAYLOAD_MAX];
-    size_t length;
     FILE *board = open_file(name, "rb"), *file = read_pack("a+b");
-    uint32_t first = (uint32_t)(pack_length / BOARDS_BLOCK_SIZE), count = 0;
+    uint32_t first = (uint32_t)(pack_length / BOARDS_BLOCK_SIZE);
     if (first > 0) need_at(first - 1, open_block(first - 1) < BOARDS_PAYLOAD_MAX, no_end);
-    do {
-        length = fread(payload, 1, sizeof payload, board);
-        uint32_t place = first + count++, answer;
-        need_at(place, place < BOARDS_PACK_BLOCKS_MAX, "the board does not fit in: a pack has 128 blocks at most");
-        pack_length += BOARDS_BLOCK_SIZE; /* the pack has a block more, which is found then */
-        answer = boards_seal(key, key_length, payload, length, pack_number, place, find(place), BOARDS_BLOCK_SIZE);
-        need_at(place, answer == BOARDS_DONE, boards_reason(answer));
-    } while (length == sizeof payload);
+    uint32_t count = seal_board(board, first);
     close_file(board, name);
     /* Once it is all out, the file ends where this board ends, unless another program has written to it. */
     bool written = fseek(file, 0, SEEK_END) == 0 && fwrite(find(first), BOARDS_BLOCK_SIZE, count, file) == count &&
@@ -122,6 +130,36 @@ static void get(uint32_t first) {
     close_file(read_pack("rb"), pack_file);
     while (open_block(last) == BOARDS_PAYLOAD_MAX) last++;
     for (; first <= last; first++) fwrite(find(first), 1, boards_payload_length(find(first)), stdout);
+}
+
+/* A file that is there already is not overwritten. */
+static FILE *new_file(const char *name) {
+    need(fopen(name, "rb") == NULL, name, "there is such a file already");
+    return open_file(name, "wb");
+}
+
+/* Opens the pack from a place on by one call, and writes as many boards as there are names. If a block from there on is
+   damaged, or there are not so many boards, no file is written. */
+static void chapter(uint32_t first, char **names, size_t boards) {
+    uint16_t lengths[BOARDS_RUN_BLOCKS_MAX];
+    uint32_t failed = first;
+    size_t ends = 0;
+    close_file(read_pack("rb"), pack_file);
+    uint8_t *run = find(first), *end = pack + pack_length;
+    size_t count = (size_t)(end - run) / BOARDS_BLOCK_SIZE;
+    uint32_t answer = boards_open_run(key, key_length, pack_number, first, lengths, count, run, (size_t)(end - run),
+                                      &failed);
+    need_at(failed, answer == BOARDS_DONE, boards_reason(answer));
+    for (size_t i = 0; i < count; i++) ends += lengths[i] < BOARDS_PAYLOAD_MAX;
+    need_at(first, ends >= boards, "there are not so many boards from here on");
+    for (const uint16_t *length = lengths; boards > 0; boards--, names++) {
+        FILE *board = new_file(*names);
+        do {
+            fwrite(run, 1, *length, board);
+            run += BOARDS_BLOCK_SIZE;
+        } while (*length++ == BOARDS_PAYLOAD_MAX);
+        close_file(board, *names);
+    }
 }
 
 /* Where the file ends within a block, the whole ones are looked at before this is told. */
@@ -153,15 +191,18 @@ int main(int argc, char **argv) {
     uint64_t place = 0;
     bool adding = argc > 5 && strcmp(argv[4], "add") == 0;
     bool getting = argc == 6 && strcmp(argv[4], "get") == 0 && is_number(argv[5], UINT32_MAX, &place);
+    bool loading = argc > 6 && strcmp(argv[4], "chapter") == 0 && is_number(argv[5], UINT32_MAX, &place);
     bool checking = argc == 5 && strcmp(argv[4], "check") == 0;
-    if (!(adding || getting || checking) || !is_number(argv[2], UINT64_MAX, &pack_number)) {
-        fputs("usage: save KEYFILE PACKNUMBER PACKFILE add BOARD... | get PLACE | check\n", stderr);
+    if (!(adding || getting || loading || checking) || !is_number(argv[2], UINT64_MAX, &pack_number)) {
+        fputs("usage: save KEYFILE PACKNUMBER PACKFILE "
+              "add BOARD... | get PLACE | chapter PLACE BOARD... | check\n", stderr);
         return 2;
     }
     pack_file = argv[3];
     read_key(argv[1]);
     for (int i = 5; adding && i < argc; i++) add(argv[i]);
     if (getting) get((uint32_t)place);
+    if (loading) chapter((uint32_t)place, argv + 6, (size_t)argc - 6);
     if (checking) check();
     close_file(stdout, "standard output"); /* what was printed may only now be written */
     return 0;

@@ -18,25 +18,33 @@
  * boards_part where it stands: it is sealed or opened there, and nothing is copied. boards_seal and boards_open
  * themselves see one block, wherever it is, and take every place up to 65,535.
  *
+ * boards_seal_run and boards_open_run do this for a run in one call. A run is 1 to 128 blocks, one behind the other,
+ * for places that follow each other: a whole pack, a part of one, or blocks by themselves. Beside it goes a list with
+ * the length of each block's payload. Each payload is sealed where it stands, at the front of its block. Of a run, all
+ * blocks are opened or none is.
+ *
  * Each call does its work on the bytes that it is lent and answers 0, or it answers the number of what is wrong and
- * leaves every byte as it was. It does so for every key, tweak, board, payload, block and pack, of any length and any
- * content, and for every pack number and every place. Of every call:
- *   - Bytes are lent as a pointer to the first of them and a length. As many bytes have to be there as the length
- *     says, and those of data and block have to be writable. Where the length is 0, the pointer may be anything, NULL
- *     too.
- *   - key, tweak, payload and the pack that is lent to boards_find are never written. data and block are read and
- *     written. Nothing else is touched, errno included.
- *   - What is written must not overlap what is read: data or block is to have no byte in common with key, tweak or
- *     payload; so a payload cannot be sealed where it stands in the block. key, tweak and payload may overlap each
- *     other.
+ * leaves every byte as it was, but for the place that boards_open_run writes to *failed. It does so for every key,
+ * tweak, board, payload, block, pack, run and list, of any length and any content, and for every pack number and every
+ * place. Of every call:
+ *   - Bytes are lent as a pointer to the first of them and a length, and a list as a pointer to its first number and
+ *     their count. As many have to be there as the length or the count says, and those of data, block and run, and of
+ *     the list of boards_open_run, have to be writable. Where it is 0, the pointer may be anything, NULL too.
+ *   - key, tweak, payload, the pack that is lent to boards_find and the list of boards_seal_run are never written.
+ *     data, block and run are read and written. boards_open_run writes its list and *failed where it says so. Nothing
+ *     else is touched, errno included.
+ *   - What is written must overlap nothing: data, block, run, *failed and the list of boards_open_run are to have no
+ *     byte in common with each other or with anything else that is lent; so a payload cannot be lent to boards_seal
+ *     where it stands in the block. What is only read may overlap: key, tweak, payload and the list of boards_seal_run.
  *   - No call can tell whether a pointer, a length or an overlap is wrong in this sense: nothing is promised then.
  *   - Nothing is kept between calls, no memory is allocated, and no system call is made. As compiled today, a call
- *     takes some 5 KiB of stack. Any number of threads may call at once, as long as none is lent bytes that another
+ *     takes some 6 KiB of stack. Any number of threads may call at once, as long as none is lent bytes that another
  *     one's call may write. As compiled today, boards_find reads no byte of the pack, so that other threads may be at
  *     work on its blocks meanwhile; this is tested, and not proved.
- *   - The bytes may stand at any address: nothing has to be aligned.
+ *   - Bytes may stand at any address: they need not be aligned. A list and *failed are aligned as C aligns uint16_t and
+ *     uint32_t.
  *
- * What is proved. The five functions are written in Rattle, a language in which each function states what it
+ * What is proved. The seven functions are written in Rattle, a language in which each function states what it
  * promises, and the archive libboards.a is made only after a checker has accepted a proof of every promise. Proved is
  * that each call ends, touches nothing but the bytes that it is lent, and answers and leaves what is said below, for
  * all arguments, where HCH and AES are definitions in the source, written line by line from the paper of D. Chakraborty
@@ -53,8 +61,9 @@
  * of both. The products in HCH use no table, and no branch that depends on the data was seen in their compiled code.
  * HCH's own tests, in its source, are on lengths alone. Opening, in its source, looks at every byte of the check where
  * the payload's length is at most 496. Its time depends on that length, and a block that it answers 8 for takes twice
- * as long as a good one. The compiled code of HCH and of opening was not searched for other branches. Nothing is wiped
- * from the stack. Keys are yours to make, to keep and to wipe.
+ * as long as a good one. A run is opened block by block up to the first that will not open, and what was opened is then
+ * enciphered again. The compiled code of HCH and of opening was not searched for other branches. Nothing is wiped from
+ * the stack. Keys are yours to make, to keep and to wipe.
  */
 #ifndef BOARDS_H
 #define BOARDS_H
@@ -62,11 +71,11 @@
 #include <stddef.h>
 #include <stdint.h>
 
-/* The version of the library: 0.10. */
+/* The version of the library: 0.11. */
 #define BOARDS_VERSION_MAJOR 0
-#define BOARDS_VERSION_MINOR 10
+#define BOARDS_VERSION_MINOR 11
 
-/* The limits, in bytes but for the last two. */
+/* The limits, in bytes but for the last three. */
 #define BOARDS_KEY_SIZE 16
 #define BOARDS_TWEAK_SIZE 16
 #define BOARDS_DATA_MIN 16
@@ -75,6 +84,7 @@
 #define BOARDS_PAYLOAD_MAX 496
 #define BOARDS_PLACE_MAX 65535     /* places run from 0 to this one */
 #define BOARDS_PACK_BLOCKS_MAX 128 /* a pack has 1 to so many blocks */
+#define BOARDS_RUN_BLOCKS_MAX 128  /* and so has a run */
 
 /* What a call answers. */
 #define BOARDS_DONE 0                /* the work is done */
@@ -82,12 +92,13 @@
 #define BOARDS_WRONG_TWEAK_SIZE 2    /* tweak_length is not 16 */
 #define BOARDS_DATA_TOO_SHORT 3      /* the data is under 16 bytes long */
 #define BOARDS_DATA_TOO_LONG 4       /* the data is over 4,096 bytes long */
-#define BOARDS_PAYLOAD_TOO_LONG 5    /* payload_length is over 496 */
-#define BOARDS_PLACE_TOO_HIGH 6      /* the place is over 65,535; in boards_find, it is past the pack's last block */
+#define BOARDS_PAYLOAD_TOO_LONG 5    /* payload_length, or a number of the list that is lent to sealing, is over 496 */
+#define BOARDS_PLACE_TOO_HIGH 6      /* the place, or a run's last one, is over 65,535; in boards_find, past the pack */
 #define BOARDS_WRONG_BLOCK_SIZE 7    /* the block is not 512 bytes long */
 #define BOARDS_CHECK_FAILED 8        /* no payload seals to this block under this key, pack and place */
 #define BOARDS_LINE_NOT_UNDERSTOOD 9 /* said by the command boardline alone: no function here answers it */
-#define BOARDS_WRONG_PACK_SIZE 10    /* the pack is not 1 to 128 whole blocks of 512 bytes */
+#define BOARDS_WRONG_PACK_SIZE 10    /* the pack or the run is not 1 to 128 whole blocks of 512 bytes */
+#define BOARDS_WRONG_LIST_SIZE 11    /* the list does not have one number for each block of the run */
 
 /* Lets the compiler warn where an answer is not looked at: the data of a refused call is still the plain board. */
 #if defined(__GNUC__)
@@ -164,8 +175,8 @@ BOARDS_LOOK_AT_ANSWER
 uint32_t boards_find(const uint8_t *pack, size_t length, uint32_t place);
 
 /* The block of a place that boards_find has found in the pack: the address of its 512 bytes, to be lent to boards_seal
-   or boards_open. Blocks of different places have no byte in common. Where boards_find did not answer BOARDS_DONE,
-   nothing is promised. */
+   or boards_open, or, with the blocks behind it, as a run. Blocks of different places have no byte in common. Where
+   boards_find did not answer BOARDS_DONE, nothing is promised. */
 static inline uint8_t *boards_part(uint8_t *pack, uint32_t place) {
     return pack + (size_t)BOARDS_BLOCK_SIZE * place;
 }
@@ -175,8 +186,38 @@ static inline const uint8_t *boards_const_part(const uint8_t *pack, uint32_t pla
     return pack + (size_t)BOARDS_BLOCK_SIZE * place;
 }
 
-/* The payload's length, 0 to 496, in a block that boards_open has opened. Of other bytes it tells nothing: it may be
-   up to 65,535 there. */
+/*
+ * Seals the payloads of a run of n blocks, 1 to 128, for the places first to first + n - 1 of a pack. The list lengths
+ * has n numbers, count of them, from 0 to 496. The payload of block i, counted from 0, is its first lengths[i] bytes;
+ * what stands behind them has no effect, is overwritten, and may never have been written.
+ *
+ * Answers BOARDS_DONE: block i is the one that boards_seal makes of its payload for the place first + i.
+ * Answers 1, 10, 11, 5 or 6, the first of them that applies, in this order (BOARDS_WRONG_KEY_SIZE,
+ * BOARDS_WRONG_PACK_SIZE, BOARDS_WRONG_LIST_SIZE, BOARDS_PAYLOAD_TOO_LONG, BOARDS_PLACE_TOO_HIGH): run is as it was.
+ * Number 6 is for a last place over 65,535.
+ */
+BOARDS_LOOK_AT_ANSWER
+uint32_t boards_seal_run(const uint8_t *key, size_t key_length, uint64_t pack, uint32_t first,
+                         const uint16_t *lengths, size_t count, uint8_t *run, size_t run_length);
+
+/*
+ * Opens a run of n blocks, 1 to 128, in place, with the key, the pack and the places first to first + n - 1 that they
+ * were sealed for. The list lengths has room for n numbers, count of them; what it held has no effect. failed points to
+ * a uint32_t, and must not be NULL.
+ *
+ * Answers BOARDS_DONE: block i is the plain block that boards_open leaves for the place first + i, and lengths[i] is
+ * the length of its payload.
+ * Answers 1, 10, 11, 6 or 8, the first of them that applies, in this order (BOARDS_WRONG_KEY_SIZE,
+ * BOARDS_WRONG_PACK_SIZE, BOARDS_WRONG_LIST_SIZE, BOARDS_PLACE_TOO_HIGH, BOARDS_CHECK_FAILED): run and lengths are as
+ * they were. With 8, *failed is the smallest place whose block boards_open would not open; with any other answer,
+ * BOARDS_DONE too, *failed is not written.
+ */
+BOARDS_LOOK_AT_ANSWER
+uint32_t boards_open_run(const uint8_t *key, size_t key_length, uint64_t pack, uint32_t first,
+                         uint16_t *lengths, size_t count, uint8_t *run, size_t run_length, uint32_t *failed);
+
+/* The payload's length, 0 to 496, in a block that was opened. Of other bytes it tells nothing: it may be up to 65,535
+   there. */
 static inline size_t boards_payload_length(const uint8_t *block) {
     return 256u * block[508] + block[509];
 }
@@ -189,12 +230,13 @@ static inline const char *boards_reason(uint32_t number) {
     case BOARDS_WRONG_TWEAK_SIZE: return "the tweak is not 16 bytes long";
     case BOARDS_DATA_TOO_SHORT: return "the board is shorter than 16 bytes";
     case BOARDS_DATA_TOO_LONG: return "the board is longer than 4,096 bytes";
-    case BOARDS_PAYLOAD_TOO_LONG: return "the payload is longer than 496 bytes";
-    case BOARDS_PLACE_TOO_HIGH: return "the place is over 65,535, or past the last block of the pack";
+    case BOARDS_PAYLOAD_TOO_LONG: return "a payload is longer than 496 bytes";
+    case BOARDS_PLACE_TOO_HIGH: return "a place is over 65,535, or past the last block of the pack";
     case BOARDS_WRONG_BLOCK_SIZE: return "the block is not 512 bytes long";
     case BOARDS_CHECK_FAILED: return "the block is damaged, or belongs to another key, pack or place";
     case BOARDS_LINE_NOT_UNDERSTOOD: return "the line was not understood";
-    case BOARDS_WRONG_PACK_SIZE: return "the pack is not 1 to 128 whole blocks of 512 bytes";
+    case BOARDS_WRONG_PACK_SIZE: return "the pack or the run is not 1 to 128 whole blocks of 512 bytes";
+    case BOARDS_WRONG_LIST_SIZE: return "the list does not have one number for each block of the run";
     default: return "there is no such number";
     }
 }

@@ -21,7 +21,7 @@ INSTALLING = 3600  # seconds: the library is proved before it is compiled
 
 # What the archive defines, and what it may ask for: the header says so.
 DEFINED = ["boards_decipher", "boards_encipher", "boards_find", "boards_open",
-           "boards_seal"]
+           "boards_open_run", "boards_seal", "boards_seal_run"]
 ASKED_FOR = {"memcpy", "memset"}
 
 

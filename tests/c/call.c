@@ -6,19 +6,23 @@
 #include <inttypes.h>
 #include <string.h>
 
-/* Bytes, as no case has more in one slice, or in a pack; and a value for errno. */
+/* Bytes, as no case has more in one slice, or in a pack or a run; and a value for errno. */
 enum { ROOM = 8192, PACK_ROOM = 130 * 512 + 1, UNTOUCHED = 12345 };
 
-const char *const function_names[FUNCTIONS] = {"encipher", "decipher", "seal", "open", "find"};
+const char *const function_names[FUNCTIONS] = {"encipher", "decipher", "seal", "open", "find", "seal_run", "open_run"};
 
 unsigned long calls;
 
-static lent key, tweak, payload, data, pack;
+static lent key, tweak, payload, list, data, pack, run, failed;
 
 /* The slices that a function reads and may not write. */
-static lent *const read_slices[FUNCTIONS][3] = {{&key, &tweak}, {&key, &tweak}, {&key, &payload}, {&key}};
+static lent *const read_slices[FUNCTIONS][3] = {
+    {&key, &tweak}, {&key, &tweak}, {&key, &payload}, {&key}, {NULL}, {&key, &list}, {&key},
+};
 
-static slice given(const call *c, const lent *l) { return l == &key ? c->key : l == &tweak ? c->tweak : c->payload; }
+static slice given(const call *c, const lent *l) {
+    return l == &key ? c->key : l == &tweak ? c->tweak : l == &list ? c->list : c->payload;
+}
 
 static void make_rooms(void) {
     if (key.room != NULL) return;
@@ -27,22 +31,35 @@ static void make_rooms(void) {
     lent_map(&payload, "payload", ROOM);
     lent_map(&data, "data", ROOM);
     lent_map(&pack, "pack", PACK_ROOM);
+    lent_map(&run, "run", PACK_ROOM);
+    lent_map(&list, "list", ROOM);
+    lent_map(&failed, "place that failed", sizeof(uint32_t));
 }
 
 /* Where the function's data stands. */
-static lent *data_room(function name) { return name == FIND ? &pack : &data; }
+static lent *data_room(function name) {
+    return name == FIND ? &pack : name == SEAL_RUN || name == OPEN_RUN ? &run : &data;
+}
+
+/* The same position for numbers of that many bytes, which have to be aligned. */
+static position aligned(position where, int size) {
+    return where < END ? (position)((int)where / size * size) : where;
+}
 
 uint32_t answer(const call *c) {
     const slice *k = &c->key, *t = &c->tweak, *p = &c->payload;
     uint8_t *d = (uint8_t *)c->data.bytes; /* the one slice that is written, but by FIND */
-    size_t length = c->data.length;
+    uint16_t *numbers = (uint16_t *)c->list.bytes; /* and OPEN_RUN writes these */
+    size_t length = c->data.length, count = c->list.length / sizeof *numbers;
     calls++;
     switch (c->name) {
     case ENCIPHER: return boards.encipher(k->bytes, k->length, t->bytes, t->length, d, length);
     case DECIPHER: return boards.decipher(k->bytes, k->length, t->bytes, t->length, d, length);
     case SEAL: return boards.seal(k->bytes, k->length, p->bytes, p->length, c->pack, c->place, d, length);
     case OPEN: return boards.open(k->bytes, k->length, c->pack, c->place, d, length);
-    default: return boards.find(d, length, c->place);
+    case FIND: return boards.find(d, length, c->place);
+    case SEAL_RUN: return boards.seal_run(k->bytes, k->length, c->pack, c->place, numbers, count, d, length);
+    default: return boards.open_run(k->bytes, k->length, c->pack, c->place, numbers, count, d, length, c->failed);
     }
 }
 
@@ -51,6 +68,8 @@ static uint32_t answer_lent(call c) {
     c.key.bytes = key.bytes;
     c.tweak.bytes = tweak.bytes;
     c.payload.bytes = payload.bytes;
+    c.list.bytes = list.bytes;
+    c.failed = (uint32_t *)failed.bytes;
     c.data.bytes = data_room(c.name)->bytes;
     return answer(&c);
 }
@@ -67,6 +86,10 @@ static void describe(const call *c, position where) {
                  k, c->pack, c->place, d, how);
     } else if (c->name == FIND) {
         snprintf(called, sizeof called, "%s(pack of %zu, place %" PRIu32 "), %s", name, d, c->place, how);
+    } else if (c->name == SEAL_RUN || c->name == OPEN_RUN) {
+        snprintf(called, sizeof called,
+                 "%s(key of %zu, pack %" PRIu64 ", first place %" PRIu32 ", list of %zu, run of %zu), %s", name, k,
+                 c->pack, c->place, c->list.length / 2, d, how);
     } else {
         snprintf(called, sizeof called, "%s(key of %zu, tweak of %zu, data of %zu), %s", name, k, c->tweak.length, d,
                  how);
@@ -82,24 +105,46 @@ static void hold_part(const call *c) {
     }
 }
 
-void hold_at(const call *c, position where) {
-    make_rooms();
-    describe(c, where);
+/* What *failed is before the call, and where nothing is written to it. */
+static const uint32_t no_place = 0xdeadbeef;
+
+/* All that the function may touch. */
+static void lend(const call *c, position where) {
     lent *const *read_only = read_slices[c->name];
     for (int i = 0; read_only[i] != NULL; i++) {
         slice s = given(c, read_only[i]);
-        lent_put(read_only[i], s.bytes, s.length, where);
+        lent_put(read_only[i], s.bytes, s.length, read_only[i] == &list ? aligned(where, 2) : where);
         lent_read_only(read_only[i]);
     }
     lent *room = data_room(c->name);
     lent_put(room, c->data.bytes, c->data.length, where);
     if (c->name == FIND) lent_forbid(room);
+    if (c->name != OPEN_RUN) return;
+    lent_put(&list, c->list.bytes, c->list.length, aligned(where, 2));
+    lent_put(&failed, (const uint8_t *)&no_place, sizeof no_place, aligned(where, 4));
+}
+
+/* What OPEN_RUN writes beside the run. */
+static void hold_written(const call *c) {
+    uint32_t place = c->number == 8 ? c->failed_place : no_place, left;
+    memcpy(&left, failed.bytes, sizeof left);
+    if (left != place) DIFFERS("*failed is %" PRIu32 " in the place of %" PRIu32, left, place);
+    lent_check(&failed, (const uint8_t *)&place);
+    lent_check(&list, c->list_after);
+}
+
+void hold_at(const call *c, position where) {
+    make_rooms();
+    describe(c, where);
+    lend(c, where);
+    lent *const *read_only = read_slices[c->name];
 
     errno = UNTOUCHED;
     uint32_t number = answer_lent(*c);
     if (errno != UNTOUCHED) DIFFERS("sets errno to %d", errno);
     if (number != c->number) DIFFERS("answers %" PRIu32 " in the place of %" PRIu32, number, c->number);
-    lent_check(room, c->after);
+    lent_check(data_room(c->name), c->after);
+    if (c->name == OPEN_RUN) hold_written(c);
     for (int i = 0; read_only[i] != NULL; i++) lent_check(read_only[i], given(c, read_only[i]).bytes);
     if (c->name == OPEN && number == 0 && boards_payload_length(data.bytes) != c->payload_length) {
         DIFFERS("boards_payload_length is %zu in the place of %zu", boards_payload_length(data.bytes),
@@ -114,7 +159,7 @@ static int something_empty(const call *c) {
     for (int i = 0; read_only[i] != NULL; i++) {
         if (given(c, read_only[i]).length == 0) return 1;
     }
-    return c->data.length == 0;
+    return c->data.length == 0 || (c->name == OPEN_RUN && c->list.length == 0);
 }
 
 void hold(const call *c) {

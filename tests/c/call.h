@@ -4,7 +4,7 @@
 
 #include "lent.h"
 
-typedef enum { ENCIPHER, DECIPHER, SEAL, OPEN, FIND, FUNCTIONS } function;
+typedef enum { ENCIPHER, DECIPHER, SEAL, OPEN, FIND, SEAL_RUN, OPEN_RUN, FUNCTIONS } function;
 
 extern const char *const function_names[FUNCTIONS];
 
@@ -15,15 +15,19 @@ typedef struct {
 
 typedef struct {
     function name;
-    slice key;             /* of all but FIND */
-    slice tweak;           /* of ENCIPHER and DECIPHER alone */
-    slice payload;         /* of SEAL; of FIND the part that is found, or nothing, and then it is not compared */
-    slice data;            /* the board, the block, or the pack, of which FIND may not even read a byte */
-    uint64_t pack;         /* the number, of SEAL and OPEN alone */
-    uint32_t place;        /* of all but ENCIPHER and DECIPHER */
-    uint32_t number;       /* the answer */
-    const uint8_t *after;  /* what data holds then, as many bytes as before */
-    size_t payload_length; /* what boards_payload_length says of a block that was opened */
+    slice key;                 /* of all but FIND */
+    slice tweak;               /* of ENCIPHER and DECIPHER alone */
+    slice payload;             /* of SEAL; of FIND the part that is found, or nothing, and then it is not compared */
+    slice list;                /* of SEAL_RUN and OPEN_RUN: the bytes of its numbers, two each */
+    slice data;                /* the board, the block, the run, or the pack, of which FIND may not even read a byte */
+    uint64_t pack;             /* the number, of all that seal or open */
+    uint32_t place;            /* of all but ENCIPHER and DECIPHER; of a run the first one */
+    uint32_t *failed;          /* of OPEN_RUN alone, where hold and hold_at lend a number of their own */
+    uint32_t number;           /* the answer */
+    const uint8_t *after;      /* what data holds then, as many bytes as before */
+    const uint8_t *list_after; /* and the list of OPEN_RUN */
+    uint32_t failed_place;     /* what OPEN_RUN writes to *failed if the number is 8 */
+    size_t payload_length;     /* what boards_payload_length says of a block that was opened */
 } call;
 
 /* The calls that were made. */

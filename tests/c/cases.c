@@ -1,14 +1,14 @@
 /* The cases of standard input, one call a line. Its fields, separated by a space, are
-       function key tweak payload data pack place number after payload_length
-   Bytes are hexadecimal digits, two a byte, or `-` for none, and after is `=` where data is as it was. Numbers are
-   decimal. */
+       function key tweak payload data pack place number after payload_length list list_after failed_place
+   Bytes are hexadecimal digits, two a byte, and the numbers of a list four each, or `-` for none; after and list_after
+   are `=` where data and the list are as they were. All other numbers are decimal. */
 #include "call.h"
 #include "groups.h"
 #include "report.h"
 #include <errno.h>
 #include <string.h>
 
-enum { MOST = 130 * 512 + 1, LINE = 4 * MOST }; /* bytes of a field, and characters of a line */
+enum { MOST = 130 * 512 + 1, LINE = 5 * MOST }; /* bytes of a field, and characters of a line */
 
 /* The next field of the line; the first call is given the line, and each further one NULL. */
 static const char *field(char *line) {
@@ -44,6 +44,17 @@ static slice bytes(uint8_t room[MOST], const slice *before) {
     return read;
 }
 
+/* The same of a list. */
+static slice list(uint16_t room[MOST], const slice *before) {
+    static uint8_t digits[MOST];
+    slice read = bytes(digits, before);
+    if (before != NULL && read.bytes == before->bytes) return read;
+    if (read.length % 2 != 0) DIFFERS("a number of a list is not four digits");
+    for (size_t i = 0; i < read.length; i += 2) room[i / 2] = (uint16_t)(digits[i] << 8 | digits[i + 1]);
+    read.bytes = (const uint8_t *)room;
+    return read;
+}
+
 static uint64_t number(uint64_t most) {
     const char *text = field(NULL);
     char *end;
@@ -55,8 +66,8 @@ static uint64_t number(uint64_t most) {
 
 static void hold_line(char *line) {
     static uint8_t rooms[5][MOST];
-    call c;
-    c.name = named(field(line));
+    static uint16_t lists[2][MOST];
+    call c = {.name = named(field(line))};
     c.key = bytes(rooms[0], NULL);
     c.tweak = bytes(rooms[1], NULL);
     c.payload = bytes(rooms[2], NULL);
@@ -67,7 +78,12 @@ static void hold_line(char *line) {
     slice after = bytes(rooms[4], &c.data);
     c.after = after.bytes;
     c.payload_length = (size_t)number(UINT16_MAX);
-    if (after.length != c.data.length || strtok(NULL, " \n") != NULL) DIFFERS("the line is not understood");
+    c.list = list(lists[0], NULL);
+    slice list_after = list(lists[1], &c.list);
+    c.list_after = list_after.bytes;
+    c.failed_place = (uint32_t)number(UINT32_MAX);
+    int fits = after.length == c.data.length && list_after.length == c.list.length;
+    if (!fits || strtok(NULL, " \n") != NULL) DIFFERS("the line is not understood");
     hold(&c);
 }
 

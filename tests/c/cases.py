@@ -10,6 +10,7 @@ import random
 
 import hch
 import pack as packs
+import runs
 from cases_pack import by_hand, with_bit, with_bytes
 from harness import ROOT
 from hch import Refused
@@ -22,17 +23,23 @@ PACKS = [0, 1, (1 << 63) - 1, 1 << 63, (1 << 64) - 2, (1 << 64) - 1]
 
 
 def case(name, key, tweak=b"", payload=b"", data=b"", pack=0, place=0,
-         number=0, after=None, used=0):
+         number=0, after=None, used=0, lengths=b"", lengths_after=None,
+         failed=0):
     """The line of a call that answers this number. It leaves the bytes of
-    after, or, where this is None, data as it was."""
-    if after is None:
-        after = "="
-    else:
-        assert len(after) == len(data)
-        after = after.hex() or "-"
+    after, or, where this is None, data as it was; so it does with the bytes
+    of a list."""
     slices = (part.hex() or "-" for part in (key, tweak, payload, data))
-    return " ".join([name, *slices, str(pack), str(place), str(number), after,
-                     str(used)])
+    return " ".join([
+        name, *slices, str(pack), str(place), str(number),
+        left_of(data, after), str(used), lengths.hex() or "-",
+        left_of(lengths, lengths_after), str(failed)])
+
+
+def left_of(lent, after):
+    if after is None:
+        return "="
+    assert len(after) == len(lent)
+    return after.hex() or "-"
 
 
 def both(key, tweak, board):
@@ -75,6 +82,33 @@ def pair(key, payload, pack, place, block):
                place=place, after=sealed)
     yield case("open", key, data=sealed, pack=pack, place=place,
                after=plain_block(payload, pack, place), used=len(payload))
+
+
+def entries(lengths):
+    """The bytes of a list."""
+    return b"".join(length.to_bytes(2, "big") for length in lengths)
+
+
+def sealing_run(key, pack, place, lengths, run):
+    try:
+        number, after = 0, runs.seal_run(key, pack, place, lengths, run)
+    except Refused as refused:
+        number, after = refused.number, None
+    return case("seal_run", key, data=run, pack=pack, place=place,
+                number=number, after=after, lengths=entries(lengths))
+
+
+def opening_run(key, pack, place, lengths, run):
+    number, failed, left, after = 0, 0, None, None
+    try:
+        left, after = runs.open_run(key, pack, place, lengths, run)
+    except runs.Failed as refused:
+        number, failed = refused.number, refused.place
+    except Refused as refused:
+        number = refused.number
+    return case("open_run", key, data=run, pack=pack, place=place,
+                number=number, after=after, lengths=entries(lengths),
+                lengths_after=left and entries(left), failed=failed)
 
 
 def data_lengths(rng):
@@ -165,18 +199,28 @@ def refusals(rng):
     for key, length, place, pack in itertools.product(
             keys, (511, SIZE, 513), (3, 65536 + 3), (1, 2)):
         yield opening(key, pack, place, (2 * block)[:length])
+    run = runs.seal_run(good, 1, 3, (0, MOST), rng.randbytes(2 * SIZE))
+    for key, length, count, used, place, pack in itertools.product(
+            keys, (1023, 1024, 1025), (1, 2, 3), (MOST, MOST + 1),
+            (3, 65535), (1, 2)):
+        call = key, pack, place, (used,) * count, (2 * run)[:length]
+        yield sealing_run(*call)
+        yield opening_run(*call)
 
 
 def stored_lines(rng):
-    """The lines of crates/vectors that name one of the five calls, with their
-    stored answers; README.md has the format. `no` alone is a line that no
-    call is made for. But for packs, the client has room for 8,192 bytes."""
+    """The lines of crates/vectors that name one of the seven calls, with
+    their stored answers; README.md has the format. `no` alone is a line that
+    no call is made for. But for packs and runs, the client has room for 8,192
+    bytes."""
     folder = ROOT / "crates" / "vectors"
     lines = (folder / "stdin").read_bytes().split(b"\n")
     answers = (folder / "stdout").read_bytes().removesuffix(b"\n").split(b"\n")
     for line, answer in zip(lines, answers, strict=True):
         name, *fields = line.split(b" ")
-        fits = name == b"pf" or max(map(len, fields), default=0) <= 2 * 8192
+        short = [field for at, field in enumerate(fields)
+                 if (name, at) not in LONG]
+        fits = max(map(len, short), default=0) <= 2 * 8192
         if name in STORED and answer != b"no" and fits:
             yield STORED[name](rng, fields, answer)
 
@@ -242,6 +286,21 @@ def stored_find(_, fields, answer):
                 place=int.from_bytes(place, "big"), number=number)
 
 
+def stored_run(name):
+    """An answer has the number, in `ro` the place behind number 8 and the
+    list as it is left, and the run."""
+    def stored(_, fields, answer):
+        key, pack, place, lengths, run = from_hex(*fields)
+        number, *middle, after = answer.split(b" ")
+        failed = int(middle.pop(0)) if len(middle) == 2 else 0
+        after, *left = from_hex(after, *middle)
+        return case(name, key, data=run, pack=int.from_bytes(pack, "big"),
+                    place=int.from_bytes(place, "big"), number=int(number),
+                    after=after, lengths=lengths,
+                    lengths_after=left[0] if left else None, failed=failed)
+    return stored
+
+
 STORED = {
     b"he": stored_hch("encipher", outcome),
     b"hd": stored_hch("decipher", outcome),
@@ -249,7 +308,9 @@ STORED = {
     b"le": stored_hch("encipher", left), b"ld": stored_hch("decipher", left),
     b"ls": stored_pack("seal", left), b"lo": stored_pack("open", left_open),
     b"pf": stored_find,
+    b"rs": stored_run("seal_run"), b"ro": stored_run("open_run"),
 }
+LONG = (b"pf", 0), (b"rs", 4), (b"ro", 4)  # the fields with a pack or a run
 
 GROUPS = [data_lengths, key_and_tweak_lengths, payloads, lent_blocks,
           places_and_packs, wrong_blocks, refusals, stored_lines]

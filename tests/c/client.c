@@ -7,7 +7,7 @@ static const struct {
     const char *name;
     void (*run)(void);
 } groups[] = {
-    {"cases", cases},   {"order", order},   {"opening", opening}, {"finding", finding},
+    {"cases", cases},   {"order", order},   {"opening", opening}, {"finding", finding}, {"runs", runs},
     {"slices", slices}, {"header", header}, {"threads", threads}, {"wrong", wrong},
 };
 

@@ -47,8 +47,28 @@ static bool pack() {
     return boards_open(key, sizeof key, 1, 2, part, BOARDS_BLOCK_SIZE) == BOARDS_DONE || said("not opened in the pack");
 }
 
+static bool run() {
+    const uint8_t key[BOARDS_KEY_SIZE] = {1};
+    const uint16_t lengths[3] = {0, 496, 3};
+    uint8_t run[3 * BOARDS_BLOCK_SIZE] = {0};
+    uint16_t opened[3] = {0, 0, 0};
+    uint32_t failed = 0;
+    if (boards_seal_run(key, sizeof key, 1, 7, lengths, 2, run, sizeof run) != BOARDS_WRONG_LIST_SIZE)
+        return said("sealed by a list that is too short");
+    if (boards_seal_run(key, sizeof key, 1, 7, lengths, 3, run, sizeof run) != BOARDS_DONE)
+        return said("a run is not sealed");
+    run[2 * BOARDS_BLOCK_SIZE] ^= 1;
+    if (boards_open_run(key, sizeof key, 1, 7, opened, 3, run, sizeof run, &failed) != BOARDS_CHECK_FAILED)
+        return said("a damaged run is opened");
+    if (failed != 9) return said("another place failed");
+    run[2 * BOARDS_BLOCK_SIZE] ^= 1;
+    if (boards_open_run(key, sizeof key, 1, 7, opened, 3, run, sizeof run, &failed) != BOARDS_DONE)
+        return said("a run is not opened");
+    return std::memcmp(opened, lengths, sizeof opened) == 0 || said("other lengths");
+}
+
 int main() {
-    if (!hch() || !block() || !pack()) return 1;
+    if (!hch() || !block() || !pack() || !run()) return 1;
     std::printf("%s\n", boards_reason(BOARDS_DONE));
     return 0;
 }

@@ -28,7 +28,7 @@ static const struct {
 
 /* The call, with the table's number. */
 static call finding_of(size_t length, uint32_t place) {
-    call c = {FIND, {NULL, 0}, {NULL, 0}, {NULL, 0}, {some, length}, 0, place, 0, some, 0};
+    call c = {.name = FIND, .data = {some, length}, .place = place, .after = some};
     c.number = first(&c, 0);
     return c;
 }

@@ -8,6 +8,7 @@ void cases(void);   /* the lines of standard input, made by the reference progra
 void order(void);   /* the order of the refusals */
 void opening(void); /* blocks that do not open */
 void finding(void); /* the blocks of a pack, found by their places */
+void runs(void);    /* runs of blocks, sealed and opened in one call */
 void slices(void);  /* where the bytes stand, and how many they are */
 void header(void);  /* the constants and the sentences of the header */
 void threads(void); /* eight threads at once */

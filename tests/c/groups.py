@@ -13,10 +13,17 @@ from harness import Differs, ended
 ALONE = {
     "order": "the order of refusals", "opening": "blocks that do not open",
     "finding": "blocks found in a pack",
+    "runs": "runs of blocks",
     "slices": "where the lent bytes stand",
     "header": "the header's constants and sentences",
     "threads": "eight threads", "wrong": "wrong libraries",
 }
+
+
+# Fields of a case, as cases.c has them, and the numbers that are looked at
+# beside the call's own: u of an opened block, and the place that failed.
+KEY, DATA, NUMBER, AFTER, USED, LIST, LIST_AFTER, FAILED = 1, 4, *range(7, 13)
+COUNTED = {("open", "0"): (USED,), ("open_run", "8"): (FAILED,)}
 
 
 def make_cases():
@@ -57,34 +64,39 @@ def other(digits, at):
 
 def spoilt(line):
     """The case with something else expected, or as no case at all."""
-    name, key, *middle, number, after, used = line.split(" ")
-    start = [name, key, *middle]
-    yield [*start, str(int(number) + 1), after, used]
-    if after == "=":
-        [_, _, data, _, _] = middle
-        yield [*start, number, other(data, 0), used]
-        yield [*start, number, other(data, -1), used]
-    else:
-        yield [*start, number, other(after, 0), used]
-        yield [*start, number, other(after, -1), used]
-        yield [*start, number, "=", used]
-        yield [name, other(key, 0), *middle, number, after, used]
-        if name == "open":
-            yield [*start, number, after, str(int(used) + 1)]
-    yield [*start, number, after]
-    yield [*start, number, after, used, "0"]
-    yield [name, f"{key}0", *middle, number, after, used]
-    yield [name, f"g{key[1:]}", *middle, number, after, used]
-    yield [name.upper(), key, *middle, number, after, used]
+    fields = line.split(" ")
+
+    def but(at, text):
+        return [*fields[:at], text, *fields[at + 1:]]
+
+    def left_otherwise(before, after):
+        left = fields[before if fields[after] == "=" else after]
+        yield but(after, other(left, 0))
+        yield but(after, other(left, -1))
+        if fields[after] != "=":
+            yield but(after, "=")
+
+    for at in (NUMBER, *COUNTED.get((fields[0], fields[NUMBER]), ())):
+        yield but(at, str(int(fields[at]) + 1))
+    yield from left_otherwise(DATA, AFTER)
+    if fields[0] == "open_run":
+        yield from left_otherwise(LIST, LIST_AFTER)
+    if fields[NUMBER] == "0":
+        yield but(KEY, other(fields[KEY], 0))
+    yield fields[:-1]
+    yield [*fields, "0"]
+    yield but(KEY, f"{fields[KEY]}0")
+    yield but(KEY, f"g{fields[KEY][1:]}")
+    yield but(0, fields[0].upper())
 
 
 def reports_spoilt(client, made):
-    """One call of each function that is done and one that is refused: the
-    client has to report each line that is spoilt."""
+    """One call of each function for each of its numbers: the client has to
+    report each line that is spoilt."""
     chosen = {}
     for line in made.result():
-        name, *_, number, _, _ = line.split(" ")
-        chosen.setdefault((name, number == "0"), line)
+        fields = line.split(" ")
+        chosen.setdefault((fields[0], fields[NUMBER]), line)
     lines = [" ".join(fields) for line in chosen.values()
              for fields in spoilt(line)]
     for line in lines:

@@ -17,6 +17,7 @@ static const struct {
     {"BOARDS_PAYLOAD_MAX", BOARDS_PAYLOAD_MAX, 496},
     {"BOARDS_PLACE_MAX", BOARDS_PLACE_MAX, 65535},
     {"BOARDS_PACK_BLOCKS_MAX", BOARDS_PACK_BLOCKS_MAX, 128},
+    {"BOARDS_RUN_BLOCKS_MAX", BOARDS_RUN_BLOCKS_MAX, 128},
     {"BOARDS_DONE", BOARDS_DONE, 0},
     {"BOARDS_WRONG_KEY_SIZE", BOARDS_WRONG_KEY_SIZE, 1},
     {"BOARDS_WRONG_TWEAK_SIZE", BOARDS_WRONG_TWEAK_SIZE, 2},
@@ -28,6 +29,7 @@ static const struct {
     {"BOARDS_CHECK_FAILED", BOARDS_CHECK_FAILED, 8},
     {"BOARDS_LINE_NOT_UNDERSTOOD", BOARDS_LINE_NOT_UNDERSTOOD, 9},
     {"BOARDS_WRONG_PACK_SIZE", BOARDS_WRONG_PACK_SIZE, 10},
+    {"BOARDS_WRONG_LIST_SIZE", BOARDS_WRONG_LIST_SIZE, 11},
 };
 
 static void check_constants(void) {
@@ -39,7 +41,7 @@ static void check_constants(void) {
 }
 
 static void check_reasons(void) {
-    for (uint32_t a = 0; a <= 10; a++) {
+    for (uint32_t a = 0; a <= 11; a++) {
         TRYING("boards_reason(%" PRIu32 ")", a);
         const char *reason = boards_reason(a);
         if (reason == NULL || reason[0] == 0 || reason[strlen(reason) - 1] == '.')
@@ -49,7 +51,7 @@ static void check_reasons(void) {
         }
     }
     for (uint32_t bit = 0; bit < 32; bit++) {
-        uint32_t others[] = {11 + bit, (uint32_t)1 << bit, 0xffffffff >> bit};
+        uint32_t others[] = {12 + bit, (uint32_t)1 << bit, 0xffffffff >> bit};
         for (size_t i = 0; i < COUNT(others); i++) {
             TRYING("boards_reason(%" PRIu32 ")", others[i]);
             if (boards_reason(others[i]) == NULL) DIFFERS("it is NULL");

@@ -12,12 +12,18 @@ typedef uint32_t seal_function(const uint8_t *key, size_t key_length, const uint
 typedef uint32_t open_function(const uint8_t *key, size_t key_length, uint64_t pack, uint32_t place, uint8_t *block,
                                size_t length);
 typedef uint32_t find_function(const uint8_t *pack, size_t length, uint32_t place);
+typedef uint32_t seal_run_function(const uint8_t *key, size_t key_length, uint64_t pack, uint32_t first,
+                                   const uint16_t *lengths, size_t count, uint8_t *run, size_t run_length);
+typedef uint32_t open_run_function(const uint8_t *key, size_t key_length, uint64_t pack, uint32_t first,
+                                   uint16_t *lengths, size_t count, uint8_t *run, size_t run_length, uint32_t *failed);
 
 typedef struct {
     hch_function *encipher, *decipher;
     seal_function *seal;
     open_function *open;
     find_function *find;
+    seal_run_function *seal_run;
+    open_run_function *open_run;
 } library;
 
 extern library boards;

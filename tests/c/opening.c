@@ -33,7 +33,9 @@ static void encipher_for(uint8_t block[SIZE], uint32_t place) {
 
 /* The block opened as that of the pack and PLACE, which it is not. */
 static call opening_of(const uint8_t block[SIZE]) {
-    call c = {OPEN, {key, 16}, {NULL, 0}, {NULL, 0}, {block, SIZE}, pack, PLACE, 8, block, 0};
+    call c = {.name = OPEN, .key = {key, 16}, .data = {block, SIZE}, .pack = pack, .place = PLACE};
+    c.number = 8;
+    c.after = block;
     return c;
 }
 
@@ -44,8 +46,11 @@ static void hold_good(size_t used) {
     memcpy(sealed, plain, SIZE);
     encipher_for(sealed, PLACE);
     fill(before, SIZE, (uint32_t)used);
-    call seal = {SEAL, {key, 16}, {NULL, 0}, {payload, used}, {before, SIZE}, pack, PLACE, 0, sealed, 0};
-    call open = opening_of(sealed);
+    call open = opening_of(sealed), seal = open;
+    seal.name = SEAL;
+    seal.payload = (slice){payload, used};
+    seal.data.bytes = before;
+    seal.number = 0;
     open.number = 0;
     open.after = plain;
     open.payload_length = used;

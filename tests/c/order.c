@@ -9,6 +9,11 @@ enum { MOST = 8192 };
 
 static uint8_t some[3][MOST], sealed[MOST];
 
+/* Bytes for a run that is too long, of which the first two blocks are sealed for the places 3 and 4; and lists, of
+   which the second has a number over 496. */
+static uint8_t run[129 * 512];
+static uint16_t lists[2][129];
+
 /* together[f][a][b] is set where a call of f was made with the conditions of both numbers. */
 static int together[FUNCTIONS][NUMBERS][NUMBERS];
 
@@ -24,6 +29,7 @@ static void note(const call *c, int damaged) {
 static void hold_refused(call *c, int damaged) {
     c->number = first(c, damaged);
     c->after = c->data.bytes;
+    c->list_after = c->list.bytes;
     if (c->number == 0) return;
     note(c, damaged);
     hold(c);
@@ -31,7 +37,7 @@ static void hold_refused(call *c, int damaged) {
 
 static void refuse_hch(function name) {
     static const size_t lengths[] = {0, 1, 15, 16, 17, 4096, 4097, 4112};
-    call c = {name, {some[0], 0}, {some[1], 0}, {NULL, 0}, {some[2], 0}, 0, 0, 0, NULL, 0};
+    call c = {.name = name, .key = {some[0], 0}, .tweak = {some[1], 0}, .data = {some[2], 0}};
     for (size_t i = 0; i < COUNT(lengths); i++) {
         c.data.length = lengths[i];
         for (c.key.length = 0; c.key.length <= 33; c.key.length++) {
@@ -53,7 +59,7 @@ static size_t take(size_t *i, size_t count) {
 }
 
 static void refuse_seal(void) {
-    call c = {SEAL, {some[0], 0}, {NULL, 0}, {some[1], 0}, {some[2], 0}, 1, 0, 0, NULL, 0};
+    call c = {.name = SEAL, .key = {some[0], 0}, .payload = {some[1], 0}, .data = {some[2], 0}, .pack = 1};
     for (size_t i = 0; i < COUNT(keys) * COUNT(blocks) * COUNT(payloads) * COUNT(places); i++) {
         size_t rest = i;
         c.key.length = keys[take(&rest, COUNT(keys))];
@@ -66,7 +72,7 @@ static void refuse_seal(void) {
 
 /* The block is that of place 3, cut short or with bytes behind it where its length is another, or one of any bytes. */
 static void refuse_open(void) {
-    call c = {OPEN, {some[0], 0}, {NULL, 0}, {NULL, 0}, {NULL, 0}, 1, 0, 0, NULL, 0};
+    call c = {.name = OPEN, .key = {some[0], 0}, .pack = 1};
     for (size_t i = 0; i < COUNT(keys) * COUNT(blocks) * COUNT(places) * 2; i++) {
         size_t rest = i;
         c.key.length = keys[take(&rest, COUNT(keys))];
@@ -79,12 +85,30 @@ static void refuse_open(void) {
 
 /* Packs as long as those blocks; the group of finding has all lengths of packs. */
 static void refuse_find(void) {
-    call c = {FIND, {NULL, 0}, {NULL, 0}, {NULL, 0}, {some[2], 0}, 0, 0, 0, NULL, 0};
+    call c = {.name = FIND, .data = {some[2], 0}};
     for (size_t i = 0; i < COUNT(blocks) * COUNT(places); i++) {
         size_t rest = i;
         c.data.length = blocks[take(&rest, COUNT(blocks))];
         c.place = places[rest];
         hold_refused(&c, 0);
+    }
+}
+
+/* Runs and lists of lengths that fit each other and of others. The group of runs has all lengths of runs. */
+static void refuse_run(function name) {
+    static const size_t lengths[] = {0, 511, 512, 513, 1024, 65536, 66048};
+    static const size_t counts[] = {0, 1, 2, 128, 129};
+    static const uint32_t from[] = {3, 65408, 65409, 65535, 65536, 0xffffff80, 0xffffffff};
+    call c = {.name = name, .key = {some[0], 0}, .data = {run, 0}, .pack = 1};
+    for (size_t i = 0; i < COUNT(keys) * COUNT(lengths) * COUNT(counts) * COUNT(from) * COUNT(lists); i++) {
+        size_t rest = i;
+        c.key.length = keys[take(&rest, COUNT(keys))];
+        c.data.length = lengths[take(&rest, COUNT(lengths))];
+        c.list.length = 2 * counts[take(&rest, COUNT(counts))];
+        c.place = from[take(&rest, COUNT(from))];
+        c.list.bytes = (const uint8_t *)lists[rest];
+        c.failed_place = c.place == 3 ? 5 : c.place;
+        hold_refused(&c, name == OPEN_RUN && (c.place != 3 || c.data.length > 1024));
     }
 }
 
@@ -99,16 +123,26 @@ static void check_pairs(void) {
     }
 }
 
+static void seal_for(uint32_t place, uint8_t *block) {
+    if (boards.seal(some[0], 16, some[1], 100, 1, place, block, 512) != 0) DIFFERS("a good payload is not sealed");
+}
+
 void order(void) {
     TRYING("order of refusals");
     for (uint32_t i = 0; i < 3; i++) fill(some[i], MOST, i);
     fill(sealed, MOST, 3);
-    if (boards.seal(some[0], 16, some[1], 100, 1, 3, sealed, 512) != 0) DIFFERS("a good payload is not sealed");
+    fill(run, sizeof run, 4);
+    seal_for(3, sealed);
+    seal_for(3, run);
+    seal_for(4, run + 512);
+    lists[1][0] = 497;
     refuse_find();
     refuse_open();
     refuse_seal();
     refuse_hch(ENCIPHER);
     refuse_hch(DECIPHER);
+    refuse_run(SEAL_RUN);
+    refuse_run(OPEN_RUN);
     check_pairs();
     printf("%lu calls\n", calls);
 }

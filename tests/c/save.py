@@ -40,6 +40,8 @@ NO_END = "the end of the last board is missing"
 NO_ROOM = "the board does not fit in: a pack has 128 blocks at most"
 NOT_WHOLE = ("a board was not saved whole: the disk is full, or another "
              "program added to the file")
+TOO_FEW = "there are not so many boards from here on"
+THERE = "there is such a file already"
 SAVED = re.compile(rb"\w+: first place (\d+), number of blocks \d+\n")
 NOT_SAVED = re.compile(rb"save: pack: place \d+: (.+)\n")
 
@@ -138,6 +140,25 @@ class Desk:
     def gives_not(self, place, stderr, **options):
         fails(self.save("get", str(place), **options), stderr)
 
+    def loads(self, place, boards, **options):
+        """A chapter: so many boards from the place on, in files."""
+        names = self.new_names(len(boards))
+        says(self.save("chapter", str(place), *names, **options))
+        for name, board in zip(names, boards):
+            path = self.folder / name
+            compare(f"board {name} from place {place} on", board,
+                    path.read_bytes())
+            path.unlink()
+
+    def loads_not(self, place, stderr, count=1, **options):
+        names = self.new_names(count)
+        fails(self.save("chapter", str(place), *names, **options), stderr)
+        if made := [name for name in names if (self.folder / name).exists()]:
+            raise Differs(f"{made} were made")
+
+    def new_names(self, count):
+        return [f"new{i}" for i in range(count)]
+
     def reports(self, answers, end=True, whole=True, **options):
         """What check says of blocks with these answers, the last of which is
         the end of a board or not, in a file that is a pack or not."""
@@ -154,9 +175,10 @@ class Desk:
         self.reports(answers, whole=False)
         for place in places:
             self.gives_not(place, self.refusal(10, place))
+            self.loads_not(place, self.refusal(10, place))
         fails(self.save("add", "b1"),
               self.refusal(10, max(0, min(len(before) // SIZE - 1, BLOCKS))))
-        self.keeps("all three", before)
+        self.keeps("all four", before)
 
     # The pack file.
 
@@ -279,6 +301,63 @@ def numbers(desk):
         desk.pack.unlink()
 
 
+# Chapters: several boards, given back at once.
+
+def chapters(desk):
+    """All boards, and those from each board on, up to each."""
+    first, _ = layout(BOARDS)
+    boards = list(BOARDS.values())
+    desk.adds(BOARDS)
+    before = desk.packed()
+    for i, place in enumerate(first.values()):
+        for j in range(i + 1, len(boards) + 1):
+            desk.loads(place, boards[i:j])
+    desk.loads(first["b5000"] + 3, [BOARDS["b5000"][3 * MOST:]])
+    desk.keeps("chapter", before)
+
+
+def longest_chapter(desk):
+    """128 boards, and 40 of a pack that begin within it."""
+    boards = [bytes([i]) * (7 * i % MOST) for i in range(BLOCKS)]
+    desk.put("pack", b"".join(pack.seal(KEY, board, NUMBER, place)
+                              for place, board in enumerate(boards)))
+    desk.loads(0, boards)
+    desk.loads(60, boards[60:100])
+    desk.loads(BLOCKS - 1, boards[-1:])
+
+
+def no_chapter(desk):
+    """Damaged blocks, of which the first is named, too few boards, places
+    that are not there, and files that are there already."""
+    boards = {name: BOARDS[name] for name in ("b1", "b1236", "b497", "b0")}
+    desk.adds(boards)
+    good = desk.packed()
+    for places in ((0,), (3,), (6,), (2, 5)):
+        desk.put("pack", functools.reduce(
+            lambda data, place: changed(data, SIZE * place + 300), places,
+            good))
+        damaged = desk.packed()
+        desk.loads_not(0, desk.refusal(8, places[0]), 4)
+        desk.keeps("chapter", damaged)
+    desk.loads(4 + 2, [BOARDS["b0"]])
+    desk.put("pack", good)
+    desk.loads_not(0, said(TOO_FEW, 0), 5)
+    desk.loads_not(6, said(TOO_FEW, 6), 2)
+    desk.loads_not(7, desk.refusal(6, 7))
+    desk.loads_not(0, desk.refusal(8, 0), number=NUMBER + 1)
+    desk.put("pack", good[:3 * SIZE])
+    desk.loads_not(0, said(TOO_FEW, 0), 2)
+    desk.loads(0, [BOARDS["b1"]])
+    desk.put("new1", b"mine")
+    desk.put("pack", good)
+    fails(desk.save("chapter", "0", "new0", "new1", "new2"),
+          f"save: new1: {THERE}\n")
+    compare("the file that was there", b"mine",
+            (desk.folder / "new1").read_bytes())
+    fails(desk.save("chapter", "0", "none/new"),
+          f"save: none/new: {reason(errno.ENOENT)}\n")
+
+
 # Blocks that are not good.
 
 def damaged(desk):
@@ -361,7 +440,8 @@ def key_lengths(desk):
     desk.put("pack", b"")
     for length in (15, 17):
         desk.put("key", (KEY * 2)[:length])
-        for command in (["add", "b1"], ["get", "0"], ["check"]):
+        for command in (["add", "b1"], ["get", "0"], ["chapter", "0", "new"],
+                        ["check"]):
             fails(desk.save(*command), refusal)
             desk.keeps("a wrong key", b"")
 
@@ -563,6 +643,8 @@ def usage(desk):
         [], ["key"], ["key", "1"], ["key", "1", "pack"],
         ["key", "1", "pack", "add"], ["key", "1", "pack", "get"],
         ["key", "1", "pack", "get", "0", "0"],
+        ["key", "1", "pack", "chapter"], ["key", "1", "pack", "chapter", "0"],
+        ["key", "1", "pack", "chapter", "b1", "0"],
         ["key", "1", "pack", "check", "0"], ["key", "1", "pack", "list"],
         ["key", "1", "pack", "", "b1"], ["key", "1", "pack", "adds", "b1"],
         *(["key", number, "pack", "check"]
@@ -570,7 +652,7 @@ def usage(desk):
         *(["key", "1", "pack", "get", place] for place in (*bad, str(2**32))),
     ]
     text = ("usage: save KEYFILE PACKNUMBER PACKFILE "
-            "add BOARD... | get PLACE | check\n")
+            "add BOARD... | get PLACE | chapter PLACE BOARD... | check\n")
     for arguments in calls:
         try:
             says(desk.run(*arguments), b"", text, 2)
@@ -591,7 +673,7 @@ def files_that_fail(desk):
     for name in ("none", ""):
         fails(desk.save("add", name), f"save: {name}: {missing}\n")
     desk.has_no_pack()
-    for command in (["get", "0"], ["check"]):
+    for command in (["get", "0"], ["chapter", "0", "new"], ["check"]):
         fails(desk.save(*command), f"save: pack: {missing}\n")
         desk.has_no_pack()
     fails(desk.save("add", "."), f"save: .: {directory}\n")
@@ -654,6 +736,9 @@ RUNS = {
     "a place within a board": within,
     "a board from a pipe, and the pack file as one": from_a_pipe,
     "the edges of the pack number": numbers,
+    "chapters": chapters,
+    "a chapter of 128 blocks": longest_chapter,
+    "no chapter": no_chapter,
     "a damaged block": damaged,
     "a damaged block at the end": damaged_last,
     "two blocks exchanged": exchanged,

@@ -9,10 +9,32 @@
 #include <string.h>
 #include <sys/mman.h>
 
-enum { BOARD = 1000, SIZE = 512, USED = 123, PACK = 3 * SIZE }; /* bytes of what is lent to good calls */
+enum { BOARD = 1000, SIZE = 512, USED = 123, PACK = 3 * SIZE, RUN = 2 * SIZE }; /* bytes of what good calls are lent */
 
 static uint8_t key[16], tweak[16], payload[SIZE], board[BOARD], enciphered[BOARD];
 static uint8_t block[SIZE], sealed[SIZE], plain[SIZE], pack[PACK];
+static uint8_t run[RUN], sealed_run[RUN], plain_run[RUN];
+static const uint16_t lengths[2] = {USED, 496}, any_numbers[2] = {7, 65535};
+static uint32_t failed;
+
+/* The good calls of a run, with what the one-block calls leave. */
+static void make_good_runs(call *seal, call *open) {
+    uint32_t wrong = 0;
+    fill(run, RUN, 8);
+    for (uint32_t i = 0; i < 2; i++) {
+        wrong |= boards.seal(key, 16, run + SIZE * i, lengths[i], 1, 2 + i, sealed_run + SIZE * i, SIZE);
+        memcpy(plain_run + SIZE * i, sealed_run + SIZE * i, SIZE);
+        wrong |= boards.open(key, 16, 1, 2 + i, plain_run + SIZE * i, SIZE);
+    }
+    if (wrong != 0) DIFFERS("a good block is refused");
+    *seal = (call){.name = SEAL_RUN, .key = {key, 16}, .data = {run, RUN}, .pack = 1, .place = 2, .after = sealed_run};
+    *open = (call){.name = OPEN_RUN, .key = {key, 16}, .data = {sealed_run, RUN}, .pack = 1, .place = 2};
+    seal->list = (slice){(const uint8_t *)lengths, sizeof lengths};
+    open->list = (slice){(const uint8_t *)any_numbers, sizeof any_numbers};
+    open->list_after = (const uint8_t *)lengths;
+    open->failed = &failed;
+    open->after = plain_run;
+}
 
 /* One good call of each function, with what the library itself leaves: the cases hold that to the reference. */
 static void make_good(call good[FUNCTIONS]) {
@@ -28,13 +50,16 @@ static void make_good(call good[FUNCTIONS]) {
     memcpy(plain, sealed, SIZE);
     wrong |= boards.open(key, 16, 1, 2, plain, SIZE);
     if (wrong != 0) DIFFERS("a good call is refused");
+    slice k = {key, 16}, t = {tweak, 16};
     call all[FUNCTIONS] = {
-        {ENCIPHER, {key, 16}, {tweak, 16}, {NULL, 0}, {board, BOARD}, 0, 0, 0, enciphered, 0},
-        {DECIPHER, {key, 16}, {tweak, 16}, {NULL, 0}, {enciphered, BOARD}, 0, 0, 0, board, 0},
-        {SEAL, {key, 16}, {NULL, 0}, {payload, USED}, {block, SIZE}, 1, 2, 0, sealed, 0},
-        {OPEN, {key, 16}, {NULL, 0}, {NULL, 0}, {sealed, SIZE}, 1, 2, 0, plain, USED},
-        {FIND, {NULL, 0}, {NULL, 0}, {NULL, 0}, {pack, PACK}, 0, 2, 0, pack, 0},
+        {.name = ENCIPHER, .key = k, .tweak = t, .data = {board, BOARD}, .after = enciphered},
+        {.name = DECIPHER, .key = k, .tweak = t, .data = {enciphered, BOARD}, .after = board},
+        {.name = SEAL, .key = k, .payload = {payload, USED}, .data = {block, SIZE}, .pack = 1, .after = sealed},
+        {.name = OPEN, .key = k, .data = {sealed, SIZE}, .pack = 1, .after = plain, .payload_length = USED},
+        {.name = FIND, .data = {pack, PACK}, .after = pack},
     };
+    make_good_runs(&all[SEAL_RUN], &all[OPEN_RUN]);
+    for (int f = SEAL; f < FUNCTIONS; f++) all[f].place = 2;
     memcpy(good, all, sizeof all);
 }
 
@@ -50,16 +75,17 @@ static void hold_addresses(const call good[FUNCTIONS]) {
 static void hold_empty(const call good[FUNCTIONS]) {
     uint8_t empty_sealed[SIZE];
     if (boards.seal(key, 16, NULL, 0, 1, 2, empty_sealed, SIZE) != 0) DIFFERS("an empty payload is not sealed");
-    for (int i = 0; i < FUNCTIONS * 16; i++) {
+    for (int i = 0; i < FUNCTIONS * 32; i++) {
         TRYING("what is empty");
-        call c = good[i / 16];
+        call c = good[i / 32];
         if (i & 1) c.key.length = 0;
         if (i & 2) c.tweak.length = 0;
         if (i & 4) c.payload.length = 0;
         if (i & 8) c.data.length = 0;
+        if (i & 16) c.list.length = 0;
         c.number = first(&c, 0);
         if (c.name == SEAL && c.payload.length == 0) c.after = empty_sealed;
-        if (c.number != 0) c.after = c.data.bytes;
+        if (c.number != 0) c.after = c.data.bytes, c.list_after = c.list.bytes;
         hold(&c);
     }
 }
@@ -84,6 +110,24 @@ static void hold_overlap(void) {
     if (memcmp(all, copy, SIZE) != 0) DIFFERS("what was to be read is changed");
 }
 
+/* So may the key and the list that a run is sealed by. */
+static void hold_run_overlap(void) {
+    uint16_t both[16];
+    uint8_t one[RUN], other[RUN], apart[16];
+    TRYING("a key and a list share bytes");
+    for (uint16_t i = 0; i < COUNT(both); i++) both[i] = 480 + i;
+    for (size_t i = 0; i <= 16; i++) {
+        const uint8_t *same = (const uint8_t *)both + i;
+        memcpy(apart, same, 16);
+        memcpy(one, run, RUN);
+        memcpy(other, run, RUN);
+        uint32_t wrong = boards.seal_run(same, 16, 1, 2, both + 7, 2, one, RUN);
+        wrong |= boards.seal_run(apart, 16, 1, 2, both + 7, 2, other, RUN);
+        if (wrong != 0 || memcmp(one, other, RUN) != 0) DIFFERS("seal_run, %zu and 14", i);
+        calls += 2;
+    }
+}
+
 /* The call answers the table's number, and leaves its data as it was. */
 static void hold_number(const call *c) {
     uint8_t before[SIZE];
@@ -92,6 +136,7 @@ static void hold_number(const call *c) {
     const char *name = function_names[c->name];
     if (number != first(c, 0)) DIFFERS("%s answers %" PRIu32 " in the place of %" PRIu32, name, number, first(c, 0));
     if (memcmp(c->data.bytes, before, SIZE) != 0) DIFFERS("%s has changed the data", name);
+    if (failed != 0) DIFFERS("%s has written *failed", name);
 }
 
 /* Each slice in turn with so many bytes more than in a good call, from this one on. */
@@ -99,7 +144,7 @@ static void hold_longer(const call good[FUNCTIONS], const uint8_t *bytes, size_t
     TRYING("a slice with %zu bytes more than in a good call", more);
     for (int f = 0; f < FUNCTIONS; f++) {
         call with_key = good[f], with_other = good[f], with_data = good[f];
-        slice *other = f == SEAL ? &with_other.payload : &with_other.tweak;
+        slice *other = f == SEAL ? &with_other.payload : f < SEAL ? &with_other.tweak : &with_other.list;
         with_key.key = (slice){bytes, with_key.key.length + more};
         *other = (slice){bytes, other->length + more};
         with_data.data = (slice){bytes, with_data.data.length + more};
@@ -110,7 +155,7 @@ static void hold_longer(const call good[FUNCTIONS], const uint8_t *bytes, size_t
 }
 
 /* Lengths whose last 13 to 33 bits are those of a good one. So many bytes are no more than addresses until they are
-   touched. */
+   touched; the first number of a list is over 496, so that the rest need not be looked at. */
 static size_t hold_lengths(const call good[FUNCTIONS]) {
 #if SIZE_MAX > UINT32_MAX
     static const size_t more[] = {1 << 13, 1 << 16, 1 << 24, (size_t)1 << 31, (size_t)1 << 32, (size_t)1 << 33};
@@ -122,6 +167,7 @@ static size_t hold_lengths(const call good[FUNCTIONS]) {
         uint8_t *bytes =
             mmap(NULL, more[i] + PACK, PROT_READ | PROT_WRITE, MAP_PRIVATE | MAP_ANONYMOUS | MAP_NORESERVE, -1, 0);
         if (bytes == MAP_FAILED) break;
+        memset(bytes, 0xff, sizeof(uint16_t));
         hold_longer(good, bytes, more[i]);
         munmap(bytes, more[i] + PACK);
         longest = more[i] + PACK;
@@ -136,6 +182,7 @@ void slices(void) {
     hold_addresses(good);
     hold_empty(good);
     hold_overlap();
+    hold_run_overlap();
     size_t longest = hold_lengths(good);
     printf("%lu calls, the longest slice of %zu bytes\n", calls, longest);
 }

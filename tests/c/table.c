@@ -1,8 +1,25 @@
 #include "table.h"
 
 const uint32_t looks[FUNCTIONS][LOOKS] = {
-    {1, 2, 3, 4}, {1, 2, 3, 4}, {1, 7, 5, 6}, {1, 7, 6, 8}, {10, 6},
+    {1, 2, 3, 4}, {1, 2, 3, 4}, {1, 7, 5, 6}, {1, 7, 6, 8}, {10, 6}, {1, 10, 11, 5, 6}, {1, 10, 11, 6, 8},
 };
+
+/* "payload over 496 bytes"; of a run, any of them. */
+static int payload_too_long(const call *c) {
+    const uint16_t *lengths = (const uint16_t *)c->list.bytes;
+    if (c->name != SEAL_RUN) return c->payload.length > 496;
+    for (size_t i = 0; i < c->list.length / 2; i++) {
+        if (lengths[i] > 496) return 1;
+    }
+    return 0;
+}
+
+/* "place over 65,535"; in finding "a place at or past n", and "number 6 is for a last place over 65,535" in a run. */
+static int place_too_high(const call *c) {
+    uint64_t n = c->data.length / 512, place = c->place;
+    if (c->name == FIND) return place >= n;
+    return place + (c->name == SEAL_RUN || c->name == OPEN_RUN ? n : 1) > 65536;
+}
 
 int applies(uint32_t number, const call *c, int damaged) {
     switch (number) {
@@ -10,11 +27,12 @@ int applies(uint32_t number, const call *c, int damaged) {
     case 2: return c->tweak.length != 16;
     case 3: return c->data.length < 16;
     case 4: return c->data.length > 4096;
-    case 5: return c->payload.length > 496;
-    case 6: return c->place >= (c->name == FIND ? c->data.length / 512 : 65536);
+    case 5: return payload_too_long(c);
+    case 6: return place_too_high(c);
     case 7: return c->data.length != 512;
     case 8: return damaged;
     case 10: return c->data.length < 512 || c->data.length > 128 * 512 || c->data.length % 512 != 0;
+    case 11: return c->list.length / 2 != c->data.length / 512;
     default: return 0;
     }
 }

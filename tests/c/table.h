@@ -4,13 +4,14 @@
 
 #include "call.h"
 
-enum { LOOKS = 4, NUMBERS = 11 }; /* the most of one function; and all of them, with 0 */
+enum { LOOKS = 5, NUMBERS = 12 }; /* the most of one function; and all of them, with 0 */
 
 /* "HCH looks at 1, 2, 3, 4 in this order. Sealing looks at 1, 7, 5, 6. Opening looks at 1, 7, 6, 8." In 02, finding
-   looks at 10 first, and at 6 next. A 0 stands where a function has no more. */
+   looks at 10 first, and at 6 next; of runs, "Sealing looks at 1, 10, 11, 5, 6; opening at 1, 10, 11, 6, 8". A 0
+   stands where a function has no more. */
 extern const uint32_t looks[FUNCTIONS][LOOKS];
 
-/* Whether the condition of this number holds; a damaged block is one that fails its check. */
+/* Whether the condition of this number holds; a damaged block fails its check, and a damaged run has such a block. */
 int applies(uint32_t number, const call *c, int damaged);
 
 /* The number that the call has to answer: the first that applies, or 0. */

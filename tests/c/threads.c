@@ -11,14 +11,16 @@
 #include <pthread.h>
 #include <string.h>
 
-enum { THREADS = 8, ROUNDS = 100, BOARD = 4096, SIZE = 512, SIGNALS = 65536, CALLS = 8 };
+enum { THREADS = 8, ROUNDS = 100, BOARD = 4096, SIZE = 512, RUN = 3 * SIZE, SIGNALS = 65536, CALLS = 11 };
 
 /* What the calls of a round answer. */
-static const uint32_t numbers[CALLS] = {0, 0, 0, 0, 8, 1, 0, 0};
+static const uint32_t numbers[CALLS] = {0, 0, 0, 0, 8, 1, 0, 0, 0, 8, 0};
 
 typedef struct {
     uint32_t numbers[CALLS];
-    uint8_t enciphered[BOARD], deciphered[BOARD], sealed[SIZE], opened[SIZE], part[SIZE];
+    uint8_t enciphered[BOARD], deciphered[BOARD], sealed[SIZE], opened[SIZE], part[SIZE], run[RUN];
+    uint16_t lengths[3];
+    uint32_t failed;
 } result;
 
 static uint8_t shared[THREADS * SIZE]; /* a pack, in which each thread has the place of its seed */
@@ -31,10 +33,20 @@ typedef struct {
     result results[ROUNDS];
 } work;
 
-/* Two boards, two blocks, two refusals, and a block found in the pack and sealed there. */
+/* A run that is sealed, opened as that of another pack, which it is not, and opened. */
+static void do_run(const work *w, result *r, uint64_t pack, uint32_t place) {
+    fill(r->run, RUN, w->seed);
+    for (uint32_t i = 0; i < 3; i++) r->lengths[i] = (uint16_t)((place + 53 * i) % 497);
+    r->numbers[8] = boards.seal_run(w->key, 16, pack, place, r->lengths, 3, r->run, RUN);
+    r->numbers[9] = boards.open_run(w->key, 16, pack + 1, place, r->lengths, 3, r->run, RUN, &r->failed);
+    memset(r->lengths, 0, sizeof r->lengths);
+    r->numbers[10] = boards.open_run(w->key, 16, pack, place, r->lengths, 3, r->run, RUN, &r->failed);
+}
+
+/* Two boards, two blocks, two refusals, a block found in the pack and sealed there, and a run. */
 static void do_round(work *w, uint32_t round) {
     result *r = &w->results[round];
-    uint32_t seed = w->seed * ROUNDS + round, place = seed * 7 % 65536;
+    uint32_t seed = w->seed * ROUNDS + round, place = seed * 7 % 65534;
     size_t length = 16 + seed * 977 % (BOARD - 15), used = seed * 53 % 497;
     uint64_t pack = (uint64_t)seed << 40 | seed;
     fill(w->key, sizeof w->key, seed);
@@ -53,6 +65,7 @@ static void do_round(work *w, uint32_t round) {
     uint8_t *part = boards_part(shared, w->seed);
     r->numbers[7] = boards.seal(w->key, 16, w->payload, used, pack, w->seed, part, SIZE);
     memcpy(r->part, part, SIZE);
+    do_run(w, r, pack, place);
 }
 
 static void *do_work(void *given) {

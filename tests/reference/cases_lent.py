@@ -24,7 +24,7 @@ from cases_hch import MOST_BYTES, byte_drawer, other_bit
 from cases_pack import (LAST_PACK, by_hand, fields, nonzero, number, with_bit,
                         with_bytes)
 from hch import LEAST
-from lines import NO, digits, gather, line
+from lines import digits, gather, line, misread
 from pack import LAST_PLACE, MOST, SIZE, plain_block, seal
 
 DIRECTIONS = {"le": hch.encipher, "ld": hch.decipher}
@@ -229,27 +229,7 @@ def line_cases():
              "lo": [k, n, p, b]}
 
     for name, good in forms.items():
-        yield line(name), NO
-        yield line(name, *good, ""), NO
-        yield line(name, *good, "00"), NO
-        for at, field in enumerate(good):
-            before, after = good[:at], good[at + 1:]
-            # A field less, and one more, which is empty.
-            yield line(name, *before, *after), NO
-            yield line(name, *before, "", field, *after), NO
-            # An odd number of digits, upper case and other characters.
-            for bad in (field[1:], field + "0", "A" + field[1:],
-                        field[:-1] + "g", field[:-1] + "\r"):
-                yield line(name, *before, bad, *after), NO
-            # The pack number and the place of other lengths.
-            if field in (n, p):
-                for bad in ("", field[2:], field + "00"):
-                    yield line(name, *before, bad, *after), NO
-        # Unknown commands.
-        for other in ("l", "lx", "lh", "lp", "L" + name[1:], name.upper(),
-                      name[0] + name[1].upper(), name + "e", "l" + name,
-                      name[::-1]):
-            yield line(other, *good), NO
+        yield from misread(name, good, (n, p))
         yield from both(0, draw(16), draw(16), draw(17))
 
     # The longest line that is understood.

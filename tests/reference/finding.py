@@ -12,15 +12,21 @@ from pack import SIZE, number_of
 MOST_BLOCKS = 128  # "1 to 128 whole blocks"
 
 
-def find(pack, place):
-    """"The block of place p begins at byte 512 times p." "10, the lent pack is
-    not 1 to 128 whole blocks, looked at first; a place at or past n is number
-    6, looked at next."
+def block_count(pack):
+    """How many blocks a pack has. "10, the lent pack is not 1 to 128 whole
+    blocks."
     """
     n, over = divmod(len(pack), SIZE)
     if over != 0 or not 1 <= n <= MOST_BLOCKS:
         raise Refused(10)
-    if place >= n:
+    return n
+
+
+def find(pack, place):
+    """"The block of place p begins at byte 512 times p." Number 10 is "looked
+    at first; a place at or past n is number 6, looked at next."
+    """
+    if place >= block_count(pack):
         raise Refused(6)
     return pack[SIZE * place:SIZE * (place + 1)]
 

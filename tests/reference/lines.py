@@ -28,6 +28,35 @@ def drawer(seed):
     return lambda: rng.getrandbits(128)
 
 
+def misread(name, good, numbers):
+    """Lines that are not understood: this command, of two letters, and its
+    good fields with something wrong. A field that is one of the numbers has
+    exactly so many digits.
+    """
+    yield line(name), NO
+    yield line(name, *good, ""), NO
+    yield line(name, *good, "00"), NO
+    for at, field in enumerate(good):
+        before, after = good[:at], good[at + 1:]
+        # A field less, and one more, which is empty.
+        yield line(name, *before, *after), NO
+        yield line(name, *before, "", field, *after), NO
+        # An odd number of digits, upper case and other characters.
+        for bad in (field[1:], field + "0", "A" + field[1:],
+                    field[:-1] + "g", field[:-1] + "\r"):
+            yield line(name, *before, bad, *after), NO
+        # A number of another length.
+        if field in numbers:
+            for bad in ("", field[2:], field + "00"):
+                yield line(name, *before, bad, *after), NO
+    # Unknown commands.
+    scheme, way = name
+    for other in (scheme, scheme + "x", scheme + "h", scheme + "p",
+                  scheme.upper() + way, name.upper(), scheme + way.upper(),
+                  name + "e", scheme + name, way + scheme):
+        yield line(other, *good), NO
+
+
 def gather(groups, understood):
     """All cases of the groups, each line once. NO alone answers a line exactly
     if it is too long or the pattern does not match all of it.

@@ -26,11 +26,12 @@ import cases_finding  # noqa: E402
 import cases_hch  # noqa: E402
 import cases_lent  # noqa: E402
 import cases_pack  # noqa: E402
+import cases_runs  # noqa: E402
 from lines import NO  # noqa: E402
 
 PROGRAMS = {
     "vectors": [cases_field, cases_aes, cases_hch, cases_pack, cases_finding,
-                cases_lent],
+                cases_lent, cases_runs],
     "boardline": [cases_boardline],
 }
 

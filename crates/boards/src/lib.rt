@@ -1,13 +1,16 @@
-// 01's four functions for the app in C, and 02's finding. include/boards.h declares and explains them; a slice is there a pointer and a length. Each answers the number of
-// the call that it makes, 0 where the work was done, and carries that call's promises.
+// 01's four functions for the app in C, and 02's finding and runs. include/boards.h declares and explains them; a slice is there a pointer and a length, and `failed` a
+// pointer. Each answers the number of the call that it makes, 0 where the work was done, and carries that call's promises.
 ghost use mathlib.Core.Path.{_≡_};
 ghost use lib.ListN.{length};
 ghost use Rattle.strings.specs.Call.{numberOf, leftBy};
 ghost use Rattle.hch.specs.Hch.{enciphered, deciphered, hch as scheme};
 ghost use Rattle.hch.specs.Call.{answerOf, IsCipher, OnePlaintext};
-ghost use Rattle.layout.specs.Finding.{answerOf as answerOfFinding};
+ghost use Rattle.layout.specs.Finding.{blockCount, answerOf as answerOfFinding};
 ghost use Rattle.pack.specs.Sealing.{seal, answerOf as answerOfSealing};
 ghost use Rattle.pack.specs.Opening.{decipheredBlock, numberOf as numberOfOpening, answerOf as answerOfOpening, OneBlock, Meaning};
+ghost use Rattle.runs.specs.Sealing.{payloadAt, sealedRun, answerOf as answerOfRunSealing};
+ghost use Rattle.runs.specs.Opening.{numberOf as numberOfRun, failedPlace, decipheredRun, usedLengths, answerOf as answerOfRunOpening, OneRun, Meaning as RunMeaning};
+use runs::RunOpened;
 
 // Enciphers the message in place by HCH.
 #[no_mangle]
@@ -62,4 +65,46 @@ pub extern "C" fn boards_find(pack: &[u8], place: u32) -> u32
     ensures { λ r. ⌜ r ≡ numberOf (answerOfFinding place (now (pack .entry))) ⌝ }
 {
     layout::find_answer(pack, place).number()
+}
+
+// Seals the payloads at the fronts of the lent blocks, as long as the list says, for a pack and the places from `first` on. What it leaves where the work was done is
+// the one run that opens to them.
+#[no_mangle]
+pub extern "C" fn boards_seal_run(
+    key: &[u8],
+    pack: u64,
+    first: u32,
+    lengths: &[u16],
+    run: &mut [u8],
+) -> u32
+    ensures { λ r. ⌜ r ≡ numberOf (answerOfRunSealing scheme (now (key .entry)) first (now (lengths .entry)) (now (run .entry))) ⌝ }
+    ensures { λ r. ⌜ now (run .exit) ≡ leftBy r (sealedRun scheme (now (key .entry)) pack first (now (lengths .entry)) (now (run .entry))) (now (run .entry)) ⌝ }
+    ensures { λ r. ⌜ (r ≡ 0 → OneRun scheme (now (key .entry)) (blockCount (now (run .entry))) (payloadAt (now (lengths .entry)) (now (run .entry))) pack first (now (run .exit))) ⌝ }
+{
+    runs::seal_run(key, pack, first, lengths, run).number()
+}
+
+// Opens the lent blocks for a pack and the places from `first` on, and writes the payloads' lengths to the list. Where a block will not open, the first such place is
+// written to `failed`; nothing else is written there.
+#[no_mangle]
+pub extern "C" fn boards_open_run(
+    key: &[u8],
+    pack: u64,
+    first: u32,
+    lengths: &mut [u16],
+    run: &mut [u8],
+    failed: &mut u32,
+) -> u32
+    ensures { λ r. ⌜ r ≡ numberOfRun (answerOfRunOpening scheme (now (key .entry)) pack first (now (lengths .entry)) (now (run .entry))) ⌝ }
+    ensures { λ r. ⌜ now (run .exit) ≡ leftBy r (decipheredRun scheme (now (key .entry)) pack first (now (run .entry))) (now (run .entry)) ⌝ }
+    ensures { λ r. ⌜ now (lengths .exit) ≡ leftBy r (usedLengths scheme (now (key .entry)) pack first (now (run .entry))) (now (lengths .entry)) ⌝ }
+    ensures { λ r. ⌜ now (failed .exit) ≡ failedPlace (answerOfRunOpening scheme (now (key .entry)) pack first (now (lengths .entry)) (now (run .entry))) (now (failed .entry)) ⌝ }
+    ensures { λ r. ⌜ RunMeaning scheme (answerOfRunOpening scheme (now (key .entry)) pack first (now (lengths .entry)) (now (run .entry))) (now (key .entry)) pack first (now (lengths .entry)) (now (run .entry)) (now (lengths .exit)) (now (run .exit)) ⌝ }
+{
+    let opened = runs::open_run(key, pack, first, lengths, run);
+    let number = opened.number();
+    if let RunOpened::Failed(_, place) = opened {
+        *failed = place;
+    }
+    number
 }

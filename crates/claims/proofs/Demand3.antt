@@ -18,10 +18,10 @@ use Rattle.pack.specs.Theorems.{Pack}
 use Rattle.pack.proofs.Theorems as Packs
 use Rattle.claims.specs.Demand3.{Demand3}
 
-hch-tweakable : (key : List ℕ) → TweakableCipher 16 512 (hch .encipher key) (hch .decipher key)
+pub hch-tweakable : (key : List ℕ) → TweakableCipher 16 512 (hch .encipher key) (hch .decipher key)
 hch-tweakable key T h = Hch.theorems .hch-cipher key T 512 h (omega arith)
 
-key-of-16 : (key : List ℕ) → length key ≡ 16 → hch .isKey key ≡ true
+pub key-of-16 : (key : List ℕ) → length key ≡ 16 → hch .isKey key ≡ true
 unfolding isKey
 key-of-16 key k = eq-eqb (length key) 16 k
 

@@ -15,7 +15,7 @@ use Rattle.strings.specs.Call.{numberOf}
 use Rattle.strings.specs.declared.refusal.Answer.{Answer}
 use Rattle.strings.specs.declared.refusal.Answer.the-variants.{Done, Refused}
 use Rattle.strings.proofs.Refusals.{refusal-range, number-range}
-use Rattle.hch.specs.Hch.{encipher, decipher, enciphered, deciphered}
+use Rattle.hch.specs.Hch.{encipher, decipher, encipheredBy, decipheredBy, enciphered, deciphered}
 use Rattle.hch.specs.Call.{answerOf}
 use Rattle.text.specs.Hex.{digit, isDigit, hex}
 use Rattle.text.proofs.Digits.{digit-is}
@@ -23,11 +23,11 @@ use Rattle.line.specs.Line.{Request, Encipher, Decipher, Unknown, requestOf, de
 
 -- The first byte that HCH writes is a byte.
 first-enciphered : (key tweak P : List ℕ) → getD (enciphered key tweak P) 0 0 < 256
-unfolding enciphered encipher bytes
+unfolding enciphered encipheredBy encipher bytes
 first-enciphered key tweak P = mod-lt _ (lit< tt)
 
 first-deciphered : (key tweak C : List ℕ) → getD (deciphered key tweak C) 0 0 < 256
-unfolding deciphered decipher bytes
+unfolding deciphered decipheredBy decipher bytes
 first-deciphered key tweak C = mod-lt _ (lit< tt)
 
 -- A number of at most two digits is written as 9 only if it is 9.

@@ -18,10 +18,10 @@ use Rattle.claims.proofs.Demand1.{refused-left}
 use Rattle.claims.proofs.Demand3.{hch-pack}
 
 module _ (n : ℕ) (pack : List ℕ) (p : IsPack n pack) where
-  blocks : length pack / 512 ≡ n
+  pub blocks : length pack / 512 ≡ n
   blocks = omega (arith, p .2)
 
-  pack-of : isPack pack ≡ true
+  pub pack-of : isPack pack ≡ true
   unfolding isPack
   pack-of =
       rw (eq-eqb (length pack % 512) 0 (omega (arith, p .2)), le-leb 1 (length pack / 512) (omega (arith, blocks, p .0)))
@@ -43,12 +43,15 @@ module _ (n : ℕ) (pack : List ℕ) (p : IsPack n pack) where
   parts-of = rw blocks at (Layout.theorems .pack-is-its-parts pack pack-of)
 
 -- Either it is no pack, and then of no n; or it is one of as many blocks as it has.
-not-pack : (place : ℕ) (pack : List ℕ) (t : Bool) → isPack pack ≡ t → ((n : ℕ) → IsPack n pack → ⊥) → ofFinding place pack ≡ 10
-unfolding tests looksAt
-not-pack place pack true e none =
+pub not-a-pack : (pack : List ℕ) (t : Bool) → isPack pack ≡ t → ((n : ℕ) → IsPack n pack → ⊥) → isPack pack ≡ false
+not-a-pack pack true e none =
     let is = is-pack pack e in
     absurd (none (blockCount pack) (is .1, is .2, omega (arith, is .0)))
-not-pack place pack false e none = rw e
+not-a-pack pack false e none = e
+
+not-found : (place : ℕ) (pack : List ℕ) → isPack pack ≡ false → ofFinding place pack ≡ 10
+unfolding tests looksAt
+not-found place pack e = rw e
 
 two-blocks : let pack : List ℕ = replicate 512 1 ++ replicate 512 2 in
     (found 0 pack ≡ replicate 512 1) × (found 1 pack ≡ replicate 512 2) × (ofFinding 2 pack ≡ 6) × (ofFinding 0 [] ≡ 10)
@@ -63,7 +66,7 @@ point-1 = record {
   find-done = λ n place pack p. done n pack p place;
   find-part = λ n place pack p. part-of n pack p place;
   find-length = λ n place pack p h. Layout.theorems .found-length place pack (done n pack p place h);
-  find-10 = λ place pack. not-pack place pack (isPack pack) refl;
+  find-10 = λ place pack none. not-found place pack (not-a-pack pack (isPack pack) refl none);
   find-6 = λ n place pack p. past n pack p place;
   find-nothing = λ place pack. refused-left (ofFinding place pack) (part place pack) [];
   find-in-pack = λ n place pack r p h begins. in-pack place pack r (begins (done n (now pack) p place h));

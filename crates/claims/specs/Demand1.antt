@@ -80,8 +80,8 @@ pub record Demand1 : Type 0 where
       → answer line ≡ reply (ofHch key tweak message) (enciphered key tweak message)
   pub line-deciphered : (line key tweak message : List ℕ) → requestOf line ≡ Decipher key tweak message
       → answer line ≡ reply (ofHch key tweak message) (deciphered key tweak message)
-  -- The library's numbers are 1 to 8 and, by 02, "All new numbers, here and later, come from the library", 10.
-  pub library-numbers : (why : Refusal) → (0 < refusalNumber why) × (refusalNumber why ≤ 10) × (refusalNumber why ≡ 9 → ⊥)
+  -- The library's numbers are 1 to 8 and, by 02, "All new numbers, here and later, come from the library", 10 and 11.
+  pub library-numbers : (why : Refusal) → (0 < refusalNumber why) × (refusalNumber why ≤ 11) × (refusalNumber why ≡ 9 → ⊥)
   -- ---- "Each leaves the lent bytes unchanged and returns its number alone".
   -- The lent bytes are left by every number but 0.
   pub refused-left : (number : ℕ) (work lent : List ℕ) → 0 < number → leftBy number work lent ≡ lent

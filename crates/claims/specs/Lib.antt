@@ -3,4 +3,5 @@ pub mod Demand3
 pub mod Examples
 pub mod Fips197
 pub mod Point1
+pub mod Point2
 pub mod Program

@@ -16,7 +16,9 @@ use Rattle.blocks.specs.Counter.{masked}
 use Rattle.strings.specs.One.{OnePreimage}
 use Rattle.strings.specs.Cipher.{Cipher}
 use Rattle.blocks.specs.BlockCipher.{BlockCipher, BlockPermutation}
-use Rattle.primitives.specs.Aes.{aes}
+use Rattle.primitives.specs.Aes.{Nr, aes}
+use Rattle.primitives.specs.Inner.{under}
+use Rattle.primitives.specs.declared.aes.ExpandedKey.{ExpandedKey}
 use Rattle.strings.proofs.Xor.{xor-zero, xor-comm}
 use Rattle.strings.proofs.Bytes.{number-below}
 use Rattle.blocks.proofs.Blocks.{blocks-nil}
@@ -24,7 +26,7 @@ use Rattle.strings.proofs.One.{one-preimage}
 use Rattle.blocks.proofs.Ring.{x-below, ring-of-blocks}
 use Rattle.blocks.proofs.Horner.{power-sum-below}
 use Rattle.primitives.proofs.Theorems as Aes
-use Rattle.hch.specs.Hch.{lengthBlock, H, Ctr, encipher, Parts, enciphered, deciphered}
+use Rattle.hch.specs.Hch.{lengthBlock, H, Ctr, encipher, Parts, encipheredBy, decipheredBy, enciphered, deciphered}
 use Rattle.hch.specs.Theorems.{Theorems}
 use Rattle.hch.proofs.Scheme.{scheme-cipher}
 
@@ -38,9 +40,18 @@ own-parts c p = record {
 tweak-block : (tweak : List ℕ) → OfLength 16 tweak → IsBlock (number tweak)
 tweak-block tweak h = rw (h .0) at (number-below tweak (h .1))
 
+-- HCH with 01's step and sum and any block permutation; under any expanded key; under any key.
+by-cipher : (c : BlockCipher) → BlockPermutation c → (tweak : List ℕ) (n : ℕ) → OfLength 16 tweak → 16 ≤ n → Cipher n (encipheredBy c tweak) (decipheredBy c tweak)
+unfolding encipheredBy decipheredBy
+by-cipher c p tweak n h l = scheme-cipher (own-parts c p) (number tweak) n (tweak-block tweak h) l
+
+pub under-cipher : (expanded : ExpandedKey) (tweak : List ℕ) (n : ℕ) → OfLength 16 tweak → 16 ≤ n
+    → Cipher n (encipheredBy (under expanded) tweak) (decipheredBy (under expanded) tweak)
+under-cipher expanded = by-cipher (under expanded) (Aes.theorems .words-permutation (Nr 4) (expanded .words))
+
 pub hch-cipher : (key tweak : List ℕ) (n : ℕ) → OfLength 16 tweak → 16 ≤ n → Cipher n (enciphered key tweak) (deciphered key tweak)
 unfolding enciphered deciphered
-hch-cipher key tweak n h l = scheme-cipher (own-parts (aes key) (Aes.theorems .aes-permutation key)) (number tweak) n (tweak-block tweak h) l
+hch-cipher key = by-cipher (aes key) (Aes.theorems .aes-permutation key)
 
 one-plaintext : (key tweak : List ℕ) (n : ℕ) → OfLength 16 tweak → 16 ≤ n
     → (C : List ℕ) → OfLength n C → OnePreimage n (enciphered key tweak) C (deciphered key tweak C)

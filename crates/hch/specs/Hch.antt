@@ -2,6 +2,7 @@
 -- A block is a number below 2 ^ 128 and a message P is a string of bytes, 16 or more. The paper's n is 128. Where the message is one block,
 -- nothing stands behind it: there is no sum, steps 2, 5 and 6 do nothing, and what is left is the paper's section II-A.
 use Prim.Native.Nat.{ℕ, _*_, _^_}
+use mathlib.Core.Bool.{true}
 use mathlib.Core.List.{List, _++_}
 use lib.ListN.{length, take, drop}
 use Rattle.strings.specs.Xor.{_⊕_}
@@ -10,7 +11,10 @@ use Rattle.blocks.specs.Blocks.{blocks, string, IsBlock, bin}
 use Rattle.blocks.specs.BlockField.{timesX, powerSum}
 use Rattle.strings.specs.Cipher.{Permutation, Scheme}
 use Rattle.blocks.specs.Counter.{masked}
+use Rattle.blocks.specs.BlockCipher.{BlockCipher}
 use Rattle.primitives.specs.Aes.{isKey, aes}
+use Rattle.primitives.specs.Inner.{under}
+use Rattle.primitives.specs.declared.aes.ExpandedKey.{ExpandedKey}
 
 -- bin(l) of a message of n bytes: l is its length in bits, and a byte is 8 of them.
 abbrev pub lengthBlock : ℕ → ℕ
@@ -90,13 +94,25 @@ pub record Parts (E D timesX : ℕ → ℕ) (sum : ℕ → List ℕ → ℕ) : T
   pub step-keeps : (a : ℕ) → IsBlock a → IsBlock (timesX a)
   pub sum-keeps : (R : ℕ) (As : List ℕ) → IsBlock R → Below (2 ^ 128) As → IsBlock (sum R As)
 
--- ---- HCH with AES: 01's field, the sum of blocks times powers, AES under the key
+-- ---- HCH with 01's field and the sum of blocks times powers, and any block cipher
+
+unfoldable pub encipheredBy : BlockCipher → List ℕ → List ℕ → List ℕ
+encipheredBy c tweak P = encipher (c .E) timesX powerSum (number tweak) P
+
+unfoldable pub decipheredBy : BlockCipher → List ℕ → List ℕ → List ℕ
+decipheredBy c tweak C = decipher (c .E) (c .D) timesX powerSum (number tweak) C
+
+-- ---- HCH with AES under the key
 
 unfoldable pub enciphered : List ℕ → List ℕ → List ℕ → List ℕ
-enciphered key tweak P = encipher (aes key .E) timesX powerSum (number tweak) P
+enciphered key = encipheredBy (aes key)
 
 unfoldable pub deciphered : List ℕ → List ℕ → List ℕ → List ℕ
-deciphered key tweak C = decipher (aes key .E) (aes key .D) timesX powerSum (number tweak) C
+deciphered key = decipheredBy (aes key)
 
 abbrev pub hch : Scheme
 hch = record { isKey = isKey; encipher = enciphered; decipher = deciphered }
+
+-- HCH under a key that was expanded before. The key is in the scheme: every string is taken for one, and none is looked at.
+abbrev pub hchUnder : ExpandedKey → Scheme
+hchUnder expanded = record { isKey = λ key. true; encipher = λ key. encipheredBy (under expanded); decipher = λ key. decipheredBy (under expanded) }

@@ -1,19 +1,23 @@
 // HCH of Chakraborty and Sarkar over AES, on lent bytes.
-ghost use Prim.Native.Nat.{_≤_};
+ghost use Prim.Native.Nat.{ℕ, _≤_};
 ghost use mathlib.Core.Path.{_≡_};
+ghost use mathlib.Core.Bool.{true};
+ghost use mathlib.Core.List.{[]};
 ghost use lib.ListN.{length};
+ghost use Rattle.strings.specs.Cipher.{TweakableCipher, Same};
 ghost use Rattle.strings.specs.Xor.{_⊕_};
 ghost use Rattle.blocks.specs.Blocks.{blocks};
 ghost use Rattle.blocks.specs.BlockField.{timesX, powerSum};
 ghost use Rattle.blocks.specs.Inner.{value};
-ghost use Rattle.primitives.specs.Inner.{under};
+ghost use Rattle.primitives.specs.Inner.{under, expandedKey};
 ghost use Rattle.strings.specs.Call.{numberOf, looksAt, leftBy};
-ghost use Rattle.hch.specs.Hch.{lengthBlock, behindFirst, H as polynomialHash, encipher, decipher, enciphered, deciphered, hch as scheme};
+ghost use Rattle.hch.specs.Hch.{lengthBlock, behindFirst, H as polynomialHash, encipher, decipher, enciphered, deciphered, hch as scheme, hchUnder};
 ghost use Rattle.hch.specs.Inner.{fromI};
-ghost use Rattle.hch.specs.Call.{tests, answerOf, IsCipher, OnePlaintext};
+ghost use Rattle.hch.specs.Call.{testsBehindKey, answerOf, answerBehindKey, IsCipherUnder, IsCipher, OnePlaintext};
 use blocks::block::Block;
 use primitives::aes;
 use primitives::aes::ExpandedKey;
+use primitives::aes::Expansion;
 use primitives::field;
 use strings::refusal::Answer;
 use strings::refusal::Refusal;
@@ -25,13 +29,21 @@ pub fn is_key(key: &[u8]) -> bool
     aes::is_key(key)
 }
 
-// What a call looks at, in 01's order.
-fn judge(key: &[u8], tweak: &[u8], message: &[u8]) -> Answer
-    ensures { λ r. ⌜ r ≡ looksAt (tests (now (key .entry)) (now (tweak .entry)) (now (message .entry))) ⌝ }
+// Expands a key for many messages, and says whether it is one. HCH under the expanded key is HCH under the key, and a tweakable cipher of each length.
+pub fn expand(key: &[u8]) -> Expansion
+    ensures { λ r. ⌜ r .«is_key» ≡ scheme .isKey (now (key .entry)) ⌝ }
+    ensures { λ r. ⌜ r .expanded ≡ expandedKey (now (key .entry)) ⌝ }
+    ensures { λ r. ⌜ (scheme .isKey (now (key .entry)) ≡ true → Same (hchUnder (r .expanded)) [] scheme (now (key .entry))) ⌝ }
+    ensures { λ r. ⌜ ((n : ℕ) → 16 ≤ n → TweakableCipher 16 n (hchUnder (r .expanded) .encipher []) (hchUnder (r .expanded) .decipher [])) ⌝ }
 {
-    let valid = is_key(key);
+    ExpandedKey::new(key)
+}
+
+// What a call looks at behind its key, in 01's order.
+fn judge(tweak: &[u8], message: &[u8]) -> Answer
+    ensures { λ r. ⌜ r ≡ looksAt (testsBehindKey (now (tweak .entry)) (now (message .entry))) ⌝ }
+{
     Answer::Done
-        .refuse_if(!valid, Refusal::KeyLength)
         .refuse_if(tweak.len() != 16, Refusal::TweakLength)
         .refuse_if(message.len() < 16, Refusal::TooShort)
         .refuse_if(message.len() > 4096, Refusal::TooLong)
@@ -89,19 +101,43 @@ fn decipher_message(expanded: ExpandedKey, tweak: Block, message: &mut [u8])
     finish(expanded, r, q, m1.xor(u1), m1, message);
 }
 
+// Enciphers the message in place under a key that was expanded before, or refuses and leaves it as it is.
+pub fn encipher_with(expanded: ExpandedKey, tweak: &[u8], message: &mut [u8]) -> Answer
+    ensures { λ r. ⌜ r ≡ answerBehindKey (now (tweak .entry)) (now (message .entry)) ⌝ }
+    ensures { λ r. ⌜ now (message .exit) ≡ leftBy (numberOf r) (hchUnder expanded .encipher [] (now (tweak .entry)) (now (message .entry))) (now (message .entry)) ⌝ }
+    ensures { λ r. ⌜ IsCipherUnder (numberOf r) expanded (now (tweak .entry)) (length (now (message .entry))) ⌝ }
+{
+    let answer = judge(tweak, message);
+    if let Answer::Done = answer {
+        encipher_message(expanded, Block::read(tweak, 0), message);
+    }
+    answer
+}
+
+// Deciphers the ciphertext in place under a key that was expanded before, or refuses and leaves it as it is.
+pub fn decipher_with(expanded: ExpandedKey, tweak: &[u8], ciphertext: &mut [u8]) -> Answer
+    ensures { λ r. ⌜ r ≡ answerBehindKey (now (tweak .entry)) (now (ciphertext .entry)) ⌝ }
+    ensures { λ r. ⌜ now (ciphertext .exit) ≡ leftBy (numberOf r) (hchUnder expanded .decipher [] (now (tweak .entry)) (now (ciphertext .entry))) (now (ciphertext .entry)) ⌝ }
+    ensures { λ r. ⌜ IsCipherUnder (numberOf r) expanded (now (tweak .entry)) (length (now (ciphertext .entry))) ⌝ }
+{
+    let answer = judge(tweak, ciphertext);
+    if let Answer::Done = answer {
+        decipher_message(expanded, Block::read(tweak, 0), ciphertext);
+    }
+    answer
+}
+
 // Enciphers the message in place, or refuses and leaves it as it is.
 pub fn encipher(key: &[u8], tweak: &[u8], message: &mut [u8]) -> Answer
     ensures { λ r. ⌜ r ≡ answerOf (now (key .entry)) (now (tweak .entry)) (now (message .entry)) ⌝ }
     ensures { λ r. ⌜ now (message .exit) ≡ leftBy (numberOf r) (enciphered (now (key .entry)) (now (tweak .entry)) (now (message .entry))) (now (message .entry)) ⌝ }
     ensures { λ r. ⌜ IsCipher (numberOf r) (now (key .entry)) (now (tweak .entry)) (length (now (message .entry))) ⌝ }
 {
-    let answer = judge(key, tweak, message);
-    if let Answer::Done = answer {
-        let expansion = ExpandedKey::new(key);
-        let expanded = expansion.expanded;
-        encipher_message(expanded, Block::read(tweak, 0), message);
+    let expansion = expand(key);
+    if expansion.is_key {
+        return encipher_with(expansion.expanded, tweak, message);
     }
-    answer
+    Answer::Refused(Refusal::KeyLength)
 }
 
 // Deciphers the ciphertext in place, or refuses and leaves it as it is.
@@ -111,11 +147,9 @@ pub fn decipher(key: &[u8], tweak: &[u8], ciphertext: &mut [u8]) -> Answer
     ensures { λ r. ⌜ IsCipher (numberOf r) (now (key .entry)) (now (tweak .entry)) (length (now (ciphertext .entry))) ⌝ }
     ensures { λ r. ⌜ OnePlaintext (numberOf r) (now (key .entry)) (now (tweak .entry)) (now (ciphertext .entry)) (now (ciphertext .exit)) ⌝ }
 {
-    let answer = judge(key, tweak, ciphertext);
-    if let Answer::Done = answer {
-        let expansion = ExpandedKey::new(key);
-        let expanded = expansion.expanded;
-        decipher_message(expanded, Block::read(tweak, 0), ciphertext);
+    let expansion = expand(key);
+    if expansion.is_key {
+        return decipher_with(expansion.expanded, tweak, ciphertext);
     }
-    answer
+    Answer::Refused(Refusal::KeyLength)
 }

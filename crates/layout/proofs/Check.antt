@@ -1,19 +1,19 @@
 -- The plain block and its check.
 -- Assumes nothing.
-use Prim.Native.Nat.{ℕ, zero, suc, _+_, _-_, _%_, _^_, _≤_}
+use Prim.Native.Nat.{ℕ, zero, suc, _+_, _-_, _%_, _^_, _≤_, _<_}
 use mathlib.Core.Path.{_≡_, refl, sym, ap, _∙_}
 use mathlib.Core.Bool.{Bool, true, false, cond, _&&_, false≢true, and-assoc}
 use mathlib.Core.List.{List, _++_, append-assoc}
 use native.Mathlib.Nat.{zero-div, zero-add, mod-eq-of-lt}
 use native.Mathlib.Omega.{arith}
-use borrow.Author.Tests.{le-leb, leb-true, eq-eqb}
+use borrow.Author.Tests.{le-leb, lt-leb, leb-true, eq-eqb, ne-eqb}
 use lib.Dec.{leb}
 use lib.ListN.{length, take, drop, replicate, length-append, length-replicate, length-drop, length-take, take-append-drop}
 use lib.Seq.{drop-drop, drop-at, take-all, take-at, length-take-le}
 use Rattle.strings.specs.Bytes.{Bytes, OfLength, number, bytes, equal}
 use Rattle.strings.specs.Inner.{padded, overwrite}
-use Rattle.strings.proofs.Bytes.{length-bytes, bytes-below, bytes-number, number-bytes, below-append, below-take, below-drop, padded-take}
-use Rattle.strings.proofs.Place.{number-fits, overwrite-append, overwrite-whole}
+use Rattle.strings.proofs.Bytes.{length-bytes, bytes-below, bytes-number, number-below, number-bytes, below-append, below-take, below-drop, padded-take}
+use Rattle.strings.proofs.Place.{number-fits, overwrite-head, overwrite-append, overwrite-whole}
 use Rattle.strings.proofs.Equal.{both, equal-append, equal-refl, equal-true}
 use Rattle.layout.specs.Layout.{check, plainBlock, tweak, used, passes}
 use Rattle.layout.specs.Inner.{fits, verdictOf}
@@ -26,6 +26,12 @@ unfolding used
 used-bytes B h =
     let two : 2 ≤ length (drop 508 B) = rw (length-drop, h .0) (omega arith) in
     rw (padded-take 2 (drop 508 B) two) (mod-eq-of-lt (rw (padded-take 2 (drop 508 B) two) at (number-fits 2 8 508 B (h .1) (omega arith))))
+
+pub used-below : (B : List ℕ) → OfLength 512 B → used B < 65536
+unfolding used
+used-below B h =
+    let two : length (take 2 (drop 508 B)) ≡ 2 = length-take-le 2 (drop 508 B) (rw (length-drop, h .0) (omega arith)) in
+    rw two at (number-below (take 2 (drop 508 B)) (below-take 2 (drop 508 B) (below-drop 508 B (h .1))))
 
 -- The number 0 is zeros.
 zeros : (n : ℕ) → bytes n 0 ≡ replicate n 0
@@ -240,3 +246,24 @@ module _ (pack place : ℕ) (B : List ℕ) where
 pub both-fit : (payload block : List ℕ) → length payload ≤ 496 → length block ≡ 512 → fits payload block ≡ true
 unfolding fits
 both-fit payload block h l = rw (le-leb (length payload) 496 h, eq-eqb (length block) 512 l)
+
+-- Of a payload that stands at the front of its block: what the tests tell, and the block when its check was written.
+and-false : (t : Bool) → (t && false) ≡ false
+and-false true = refl
+and-false false = refl
+
+pub no-block : (u : ℕ) (block : List ℕ) → (length block ≡ 512 → ⊥) → fits (take u block) block ≡ false
+unfolding fits
+no-block u block h = rw (ne-eqb (length block) 512 h) (and-false (leb (length (take u block)) 496))
+
+pub too-long : (u : ℕ) (block : List ℕ) → length block ≡ 512 → 496 < u → fits (take u block) block ≡ false
+unfolding fits
+too-long u block l h = rw (lt-leb (length (take u block)) 496 (rw length-take (omega (arith, l, h))))
+
+pub completed : (u : ℕ) (block : List ℕ) (pack place : ℕ) → length block ≡ 512 → u ≤ 496
+    → overwrite u (check u pack place) block ≡ cond (fits (take u block) block) (plainBlock (take u block) pack place) block
+completed u block pack place l h =
+    let size : length (take u block) ≡ u = length-take-le u block (omega (arith, l, h)) in
+    let short : length (take u block) ≤ length block = omega (arith, l, h, size) in
+    let whole : overwrite 0 (take u block) block ≡ block = rw (overwrite-head (take u block) block short, size) (take-append-drop u block) in
+    rw (both-fit (take u block) block (omega (arith, size, h)) l) (rw (whole, size) at (plain-written (take u block) block pack place (omega (arith, size, h)) l))

@@ -69,6 +69,10 @@ pub before-or-from : {A : Type 0} (i a : ℕ) → (i < a → A) → (a ≤ i →
 before-or-from i a before from =
     ⊎-elim (λ (h : a - i ≡ 0). from (omega arith)) (λ (h : 0 < a - i). before (omega arith)) (eq-zero-or-pos (a - i))
 
+pub getD-part : (place : ℕ) (pack : List ℕ) (i : ℕ) → i < 512 → getD (part place pack) i 0 ≡ getD pack (512 * place + i) 0
+unfolding part
+getD-part place pack i h = getD-take 512 (drop (512 * place) pack) i 0 h ∙ getD-drop (512 * place) pack i 0
+
 -- The length of the pack with another block in a place, and its bytes in front of that block, in it and behind it.
 module _ (place : ℕ) (block pack : List ℕ) (room : 512 * place + 512 ≤ length pack) (long : length block ≡ 512) where
   front : length (take (512 * place) pack) ≡ 512 * place
@@ -98,6 +102,32 @@ module _ (place : ℕ) (block pack : List ℕ) (room : 512 * place + 512 ≤ len
       let there : 512 * suc place + k ≡ 512 * place + (length block + k) = omega (arith, long) in
       ap (λ (n : ℕ). getD (withPart place block pack) n 0) there ∙ past-front (length block + k)
       ∙ getD-append-add block (drop (512 * suc place) pack) k 0 ∙ getD-drop (512 * suc place) pack k 0
+
+  -- The part of that place is the block, and every other part what it was.
+  pub part-with : part place (withPart place block pack) ≡ block
+  part-with =
+      let size = part-length place (withPart place block pack) (omega (arith, with-length, room)) in
+      ext-getD 0 (part place (withPart place block pack)) block (size ∙ sym long)
+      (λ i h.
+      let in-block : i < 512 = omega (arith, h, size) in
+      getD-part place (withPart place block pack) i in-block ∙ with-within i in-block)
+
+  other-byte : (other i : ℕ) → (other ≡ place → ⊥) → i < 512 → getD (withPart place block pack) (512 * other + i) 0 ≡ getD pack (512 * other + i) 0
+  other-byte other i apart h =
+      before-or-from other place (λ before. with-before (512 * other + i) (omega (arith, before, h)))
+      (λ from. ⊎-elim (λ (same : place ≡ other). absurd (apart (sym same)))
+      (λ (less : place < other).
+      let k = 512 * other + i - 512 * suc place in
+      let there : 512 * suc place + k ≡ 512 * other + i = omega (arith, less) in
+      rw there at (with-behind k)) (eq-or-lt-of-le from))
+
+  pub part-with-other : (other : ℕ) → (other ≡ place → ⊥) → 512 * other + 512 ≤ length pack → part other (withPart place block pack) ≡ part other pack
+  part-with-other other apart within =
+      let size = part-length other (withPart place block pack) (omega (arith, with-length, within)) in
+      ext-getD 0 (part other (withPart place block pack)) (part other pack) (size ∙ sym (part-length other pack within))
+      (λ i h.
+      let in-part : i < 512 = omega (arith, h, size) in
+      getD-part other (withPart place block pack) i in-part ∙ other-byte other i apart in-part ∙ sym (getD-part other pack i in-part))
 
 -- ---- a pack is its parts
 
@@ -138,10 +168,6 @@ places-apart p q i j hi hj e = (omega (arith, hi, hj, e), omega (arith, hi, hj, 
 
 -- ---- finding in the pack with another block in a place
 
-getD-part : (place : ℕ) (pack : List ℕ) (i : ℕ) → i < 512 → getD (part place pack) i 0 ≡ getD pack (512 * place + i) 0
-unfolding part
-getD-part place pack i h = getD-take 512 (drop (512 * place) pack) i 0 h ∙ getD-drop (512 * place) pack i 0
-
 same-answer : (place : ℕ) (pack other : List ℕ) → length pack ≡ length other → answerOf place pack ≡ answerOf place other
 unfolding tests
 same-answer place pack other e = rw (same-pack pack other e, e)
@@ -164,31 +190,10 @@ module _ (place : ℕ) (block pack : List ℕ) (done : answerOf place pack ≡ D
   written-answer other = same-answer other (withPart place block pack) pack same-length
 
   pub written-found : found place (withPart place block pack) ≡ block
-  written-found =
-      let size = part-length place (withPart place block pack) (omega (arith, same-length, room)) in
-      rw (written-answer place, done)
-      (ext-getD 0 (part place (withPart place block pack)) block (size ∙ sym long)
-      (λ i h.
-      let in-block : i < 512 = omega (arith, h, size) in
-      getD-part place (withPart place block pack) i in-block ∙ with-within place block pack room long i in-block))
-
-  other-byte : (other i : ℕ) → (other ≡ place → ⊥) → i < 512 → getD (withPart place block pack) (512 * other + i) 0 ≡ getD pack (512 * other + i) 0
-  other-byte other i apart h =
-      before-or-from other place (λ before. with-before place block pack room long (512 * other + i) (omega (arith, before, h)))
-      (λ from. ⊎-elim (λ (same : place ≡ other). absurd (apart (sym same)))
-      (λ (less : place < other).
-      let k = 512 * other + i - 512 * suc place in
-      let there : 512 * suc place + k ≡ 512 * other + i = omega (arith, less) in
-      rw there at (with-behind place block pack room long k)) (eq-or-lt-of-le from))
+  written-found = rw (written-answer place, done) (part-with place block pack room long)
 
   pub others-found : (other : ℕ) → (other ≡ place → ⊥) → found other (withPart place block pack) ≡ found other pack
   others-found other apart =
       rw (written-answer other)
       (if-done (numberOf (answerOf other pack)) (part other (withPart place block pack)) (part other pack)
-      (λ e.
-      let within = found-within other pack (none-refused other pack e) in
-      let size = part-length other (withPart place block pack) (omega (arith, same-length, within)) in
-      ext-getD 0 (part other (withPart place block pack)) (part other pack) (size ∙ sym (part-length other pack within))
-      (λ i h.
-      let in-part : i < 512 = omega (arith, h, size) in
-      getD-part other (withPart place block pack) i in-part ∙ other-byte other i apart in-part ∙ sym (getD-part other pack i in-part))))
+      (λ e. part-with-other place block pack room long other apart (found-within other pack (none-refused other pack e))))

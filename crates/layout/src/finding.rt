@@ -5,7 +5,7 @@ use strings::refusal::Answer;
 use strings::refusal::Refusal;
 
 // Whether a string is 1 to 128 whole blocks.
-fn is_pack(s: &[u8]) -> bool
+pub fn is_pack(s: &[u8]) -> bool
     ensures { λ r. ⌜ r ≡ isPack (now (s .entry)) ⌝ }
 {
     let n = s.len() / 512;

@@ -14,6 +14,7 @@ mod finding;
 pub use finding::find;
 pub use finding::find_answer;
 pub use finding::find_mut;
+pub use finding::is_pack;
 use strings::number;
 
 // What a block is read as: the length of the payload where it passes its check.
@@ -62,6 +63,19 @@ pub fn write(payload: &[u8], pack: u64, place: u32, block: &mut [u8])
     }
     bytes::copy(payload, block);
     put_check(payload.len(), pack, place, block);
+}
+
+// Writes the check behind the payload of u bytes that a block begins with, or nothing where either has another length.
+pub fn complete(u: usize, pack: u64, place: u32, block: &mut [u8])
+    ensures { λ _. ⌜ now (block .exit) ≡ cond (fits (take u (now (block .entry))) (now (block .entry))) (plainBlock (take u (now (block .entry))) pack place) (now (block .entry)) ⌝ }
+{
+    if block.len() != 512 {
+        return;
+    }
+    if 496 < u {
+        return;
+    }
+    put_check(u, pack, place, block);
 }
 
 // The tweak of a pack and a place.

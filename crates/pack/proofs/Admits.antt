@@ -1,9 +1,8 @@
--- HCH does its work on a block of 512 bytes under a key and the tweak of a pack and a place, as its contract has it.
+-- HCH does its work on a block of 512 bytes under an expanded key and the tweak of a pack and a place, as its contract has it.
 -- Assumes nothing.
 use Prim.Native.Nat.{ℕ}
 use mathlib.Core.Path.{_≡_, refl, ap, _∙_}
-use mathlib.Core.Bool.{true}
-use mathlib.Core.List.{List}
+use mathlib.Core.List.{List, []}
 use native.Mathlib.Omega.{arith}
 use borrow.Author.Tests.{eq-eqb, le-ltb}
 use lib.ListN.{length}
@@ -11,27 +10,26 @@ use Rattle.strings.specs.Call.{numberOf, leftBy}
 use Rattle.strings.specs.declared.refusal.Answer.{Answer}
 use Rattle.strings.specs.declared.refusal.Answer.the-variants.{Done}
 use Rattle.strings.proofs.Refusals.{all-passed}
-use Rattle.hch.specs.Hch.{hch}
-use Rattle.hch.specs.Call.{tests, answerOf, IsCipher}
+use Rattle.primitives.specs.declared.aes.ExpandedKey.{ExpandedKey}
+use Rattle.hch.specs.Hch.{hchUnder}
+use Rattle.hch.specs.Call.{testsBehindKey, answerBehindKey, IsCipherUnder}
 use Rattle.layout.specs.Layout.{tweak}
 use Rattle.layout.proofs.Check.{tweak-of-length}
 use Rattle.pack.specs.Inner.{CipherAt}
 
-module _ (key : List ℕ) (pack place : ℕ) (block : List ℕ) (k : hch .isKey key ≡ true) (size : length block ≡ 512) where
+module _ (expanded : ExpandedKey) (pack place : ℕ) (block : List ℕ) (size : length block ≡ 512) where
   -- No test of the call holds.
-  admitted : answerOf key (tweak pack place) block ≡ Done
-  unfolding tests
+  admitted : answerBehindKey (tweak pack place) block ≡ Done
   admitted =
       rw (
-        k,
         eq-eqb (length (tweak pack place)) 16 (tweak-of-length pack place .0),
         le-ltb (length block) 16 (omega (arith, size)),
         le-ltb 4096 (length block) (omega (arith, size)),
-      ) (all-passed _ (refl, (refl, (refl, (refl, tt)))))
+      ) (all-passed _ (refl, (refl, (refl, tt))))
 
   -- So by its contract it leaves its work, and is a cipher of 512 bytes.
-  pub by-contract : (work left : List ℕ) {answer : Answer} → answer ≡ answerOf key (tweak pack place) block → left ≡ leftBy (numberOf answer) work block
-      → IsCipher (numberOf answer) key (tweak pack place) (length block) → (left ≡ work) × CipherAt hch key pack place
+  pub by-contract : (work left : List ℕ) {answer : Answer} → answer ≡ answerBehindKey (tweak pack place) block → left ≡ leftBy (numberOf answer) work block
+      → IsCipherUnder (numberOf answer) expanded (tweak pack place) (length block) → (left ≡ work) × CipherAt (hchUnder expanded) [] pack place
   by-contract work left e l cipher =
       let done = e ∙ admitted in
       (rw done at l, rw size at (cipher (ap numberOf done)))

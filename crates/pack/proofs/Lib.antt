@@ -1,3 +1,4 @@
 pub mod OneBlock
 pub mod Admits
 pub mod Theorems
+pub mod Same

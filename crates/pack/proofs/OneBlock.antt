@@ -8,7 +8,7 @@ use mathlib.Core.Logic.{inl, inr}
 use native.Mathlib.Omega.{arith}
 use borrow.Author.Tests.{eqb-true, ltb-false, eq-eqb, le-ltb}
 use lib.Dec.{eqb}
-use lib.ListN.{length, getD, take}
+use lib.ListN.{length, getD, take, drop}
 use lib.Seq.{length-take-le}
 use Rattle.strings.specs.Bytes.{Bytes, OfLength, equal}
 use Rattle.strings.specs.Call.{numberOf as numberOfTests, looksAt, leftBy}
@@ -16,7 +16,7 @@ use Rattle.strings.specs.Cipher.{Scheme}
 use Rattle.strings.specs.declared.refusal.Answer.{Answer}
 use Rattle.strings.specs.declared.refusal.Answer.the-variants.{Done as NoTestHolds, Refused as FirstIs}
 use Rattle.strings.specs.declared.refusal.Refusal.{Refusal}
-use Rattle.strings.specs.declared.refusal.Refusal.the-variants.{CheckFailed}
+use Rattle.strings.specs.declared.refusal.Refusal.the-variants.{KeyLength, CheckFailed}
 use Rattle.strings.proofs.Bytes.{below-take}
 use Rattle.strings.proofs.Equal.{both, equal-refl, equal-true}
 use Rattle.strings.proofs.One.{one-string}
@@ -69,15 +69,19 @@ module _ (S : Scheme) (key : List ℕ) (pack place : ℕ) (C : List ℕ) where
     within : Openable S key place C
     passed : passes pack place (decipheredBlock S key pack place C) ≡ true
 
-  -- Where none of the first tests holds, the block is deciphered.
-  pub openable : looksAt (take 3 (tests S key pack place C)) ≡ NoTestHolds → Openable S key place C
+  -- Where none of the tests between the key and the check holds, the block is deciphered.
+  pub openable : looksAt (take 2 (drop 1 (tests S key pack place C))) ≡ NoTestHolds → (length C ≡ 512) × (place ≤ 65535)
   unfolding tests
   openable e =
-      let t = none-holds (take 3 (tests S key pack place C)) (ap numberOfTests e) in
-      record { is-key = not-false _ (t .0); block-length = eqb-true (length C) 512 (not-false _ (t .1 .0)); place-limit = ltb-false 65535 place (t .1 .1 .0) }
+      let t = none-holds (take 2 (drop 1 (tests S key pack place C))) (ap numberOfTests e) in
+      (eqb-true (length C) 512 (not-false _ (t .0)), ltb-false 65535 place (t .1 .0))
+
+  behind-key : S .isKey key ≡ true → looksAt (take 3 (tests S key pack place C)) ≡ looksAt (take 2 (drop 1 (tests S key pack place C)))
+  unfolding tests looksAt
+  behind-key k = rw k
 
   -- A refusal before that is the answer, and leaves the block. Then one of the numbers 1, 7 and 6 applies, and number 8 is not asked for.
-  pub refused-first : {why : Refusal} → looksAt (take 3 (tests S key pack place C)) ≡ FirstIs why → Opens S key pack place C (Refused why) C
+  refused-first : {why : Refusal} → looksAt (take 3 (tests S key pack place C)) ≡ FirstIs why → Opens S key pack place C (Refused why) C
   unfolding tests
   refused-first {why} e =
       let B = decipheredBlock S key pack place C in
@@ -94,6 +98,15 @@ module _ (S : Scheme) (key : List ℕ) (pack place : ℕ) (C : List ℕ) where
           eight = λ k h l. absurd (refused-some e (ap numberOfTests (passed (record { is-key = k; block-length = h; place-limit = l }))));
         };
       }
+
+  -- It is that of a string which is no key, or that of the tests behind the key.
+  pub no-key : S .isKey key ≡ false → Opens S key pack place C (Refused KeyLength) C
+  unfolding tests looksAt
+  no-key k = refused-first (rw k)
+
+  pub refused-behind : {why : Refusal} → S .isKey key ≡ true → looksAt (take 2 (drop 1 (tests S key pack place C))) ≡ FirstIs why
+      → Opens S key pack place C (Refused why) C
+  refused-behind k e = refused-first (behind-key k ∙ e)
 
   by-tests : numberOf (answerOf S key pack place C) ≡ numberOfTests (looksAt (tests S key pack place C))
   by-tests = number-returned (used (decipheredBlock S key pack place C)) (looksAt (tests S key pack place C))
@@ -113,6 +126,39 @@ module _ (S : Scheme) (key : List ℕ) (pack place : ℕ) (C : List ℕ) where
 
   done : Admitted → answerOf S key pack place C ≡ Done (used (decipheredBlock S key pack place C))
   done a = by-check (a .within) true (a .passed)
+
+  pub opened-answer : numberOf (answerOf S key pack place C) ≡ 0 → answerOf S key pack place C ≡ Done (used (decipheredBlock S key pack place C))
+  opened-answer e = done (admitted e)
+
+  -- What it is to open to a payload: the block opens, with the payload's length as u and the payload in front.
+  module _ (payload : List ℕ) where
+    pub record OpenedTo : Type 0 where
+      pub answered : numberOf (answerOf S key pack place C) ≡ 0
+      pub used-length : used (decipheredBlock S key pack place C) ≡ length payload
+      pub front : take (length payload) (decipheredBlock S key pack place C) ≡ payload
+
+    pub opened-to : opensTo S key payload pack place C ≡ true → OpenedTo
+    unfolding opensTo
+    opened-to t =
+        let n = length payload in
+        let B = decipheredBlock S key pack place C in
+        let r = answerOf S key pack place C in
+        let left = equal (take n (leftBy (numberOf r) B C)) payload in
+        let parts = both (eqb (numberOf r) 0 && equal (valuesOf r) (n ∷ [])) left t in
+        let returned = both (eqb (numberOf r) 0) (equal (valuesOf r) (n ∷ [])) (parts .0) in
+        let none = eqb-true (numberOf r) 0 (returned .0) in
+        let d = done (admitted none) in
+        let same : equal (take n B) payload ≡ true = rw d at (parts .1) in
+        record {
+          answered = none;
+          used-length = ap (λ (s : List ℕ). getD s 0 0) (equal-true (used B ∷ []) (n ∷ []) (rw d at (returned .1)));
+          front = equal-true (take n B) payload same;
+        }
+
+    pub opens-to : OpenedTo → opensTo S key payload pack place C ≡ true
+    unfolding opensTo
+    opens-to o =
+        rw (done (admitted (o .answered)), o .used-length, o .front, equal-refl (length payload ∷ [])) (equal-refl payload)
 
   -- Number 8 is that of the last test alone.
   last-holds : OneHolds 8 (tests S key pack place C) → passes pack place (decipheredBlock S key pack place C) ≡ false
@@ -136,7 +182,7 @@ module _ (S : Scheme) (key : List ℕ) (pack place : ℕ) (cipher : CipherAt S k
 
   -- What was sealed: 512 bytes, which decipher to the plain block.
   module _ (payload : List ℕ) (b : Bytes payload) (h : length payload ≤ 496) where
-    seal-of-length : OfLength 512 (seal S key payload pack place)
+    pub seal-of-length : OfLength 512 (seal S key payload pack place)
     unfolding seal
     seal-of-length = cipher .keeps (plainBlock payload pack place) (plain-of-length payload pack place b h)
 
@@ -151,11 +197,11 @@ module _ (S : Scheme) (key : List ℕ) (pack place : ℕ) (cipher : CipherAt S k
         ∙ rw (deciphered-sealed, used-plain payload pack place h)
 
   -- What passes its check was sealed: C deciphers to B, whose payload is within the limits and seals to C.
-  record FromPayload (C B : List ℕ) : Type 0 where
-    payload-bytes : Bytes (payloadOf B)
-    used-limit : used B ≤ 496
-    payload-length : length (payloadOf B) ≤ 496
-    seals : seal S key (payloadOf B) pack place ≡ C
+  pub record FromPayload (C B : List ℕ) : Type 0 where
+    pub payload-bytes : Bytes (payloadOf B)
+    pub used-limit : used B ≤ 496
+    pub payload-length : length (payloadOf B) ≤ 496
+    pub seals : seal S key (payloadOf B) pack place ≡ C
 
   sealed-passed : (C : List ℕ) → OfLength 512 C → passes pack place (decipheredBlock S key pack place C) ≡ true
       → FromPayload C (decipheredBlock S key pack place C)
@@ -171,21 +217,16 @@ module _ (S : Scheme) (key : List ℕ) (pack place : ℕ) (cipher : CipherAt S k
         seals = ap (λ (P : List ℕ). S .encipher key (tweak pack place) P) (sym (only .1)) ∙ cipher .undoes C h;
       }
 
+  pub opened-from : (C : List ℕ) → Bytes C → numberOf (answerOf S key pack place C) ≡ 0 → FromPayload C (decipheredBlock S key pack place C)
+  opened-from C b e =
+      let a = admitted S key pack place C e in
+      sealed-passed C (a .within .block-length, b) (a .passed)
+
   pub only-sealed : (payload C : List ℕ) → OfLength 512 C → opensTo S key payload pack place C ≡ true → C ≡ seal S key payload pack place
-  unfolding opensTo
   only-sealed payload C h t =
-      let n = length payload in
-      let B = decipheredBlock S key pack place C in
-      let r = answerOf S key pack place C in
-      let left = equal (take n (leftBy (numberOf r) B C)) payload in
-      let parts = both (eqb (numberOf r) 0 && equal (valuesOf r) (n ∷ [])) left t in
-      let returned = both (eqb (numberOf r) 0) (equal (valuesOf r) (n ∷ [])) (parts .0) in
-      let a = admitted S key pack place C (eqb-true (numberOf r) 0 (returned .0)) in
-      let d = done S key pack place C a in
-      let u : used B ≡ n = ap (λ (s : List ℕ). getD s 0 0) (equal-true (used B ∷ []) (n ∷ []) (rw d at (returned .1))) in
-      let same : equal (take n B) payload ≡ true = rw d at (parts .1) in
-      let front : payloadOf B ≡ payload = rw u (equal-true (take n B) payload same) in
-      sym (rw front at (sealed-passed C h (a .passed) .seals))
+      let o = opened-to S key pack place C payload t in
+      let front : payloadOf (decipheredBlock S key pack place C) ≡ payload = rw (o .used-length) (o .front) in
+      sym (rw front at (sealed-passed C h (admitted S key pack place C (o .answered) .passed) .seals))
 
   pub one-block : (payload : List ℕ) → S .isKey key ≡ true → WithinLimits payload place → OneBlock S key payload pack place (seal S key payload pack place)
   unfolding opensTo
@@ -231,7 +272,7 @@ module _ (S : Scheme) (key : List ℕ) (pack place : ℕ) (cipher : CipherAt S k
       let number = numberOf (answerOf S key pack place C) in
       let known : number ≡ 0 → Admitted S key pack place C = admitted S key pack place C in
       let left : number ≡ 0 → leftBy number B C ≡ B = λ e. rw (done S key pack place C (known e)) in
-      let whole : number ≡ 0 → FromPayload C B = λ e. let a = known e in sealed-passed C (a .within .block-length, b) (a .passed) in
+      let whole : number ≡ 0 → FromPayload C B = opened-from C b in
       record {
         used-limit = λ e. rw (left e) (whole e .used-limit);
         sealed = λ e. rw (left e) (whole e .seals);

@@ -1,14 +1,19 @@
 -- What the contracts of inner functions cite: nobody has to believe it.
 use Prim.Native.Nat.{ℕ, _≤_}
 use mathlib.Core.Path.{_≡_}
-use mathlib.Core.Bool.{true}
+use mathlib.Core.Bool.{true, cond}
 use mathlib.Core.List.{List}
+use lib.Dec.{eqb}
 use lib.ListN.{length}
 use Rattle.strings.specs.Call.{leftBy}
 use Rattle.strings.specs.Cipher.{Cipher, Scheme}
 use Rattle.layout.specs.Layout.{tweak}
 use Rattle.pack.specs.Opening.{numberOf, decipheredBlock, answerOf, Meaning}
 use Rattle.pack.specs.declared.opening.Opened.{Opened}
+
+-- What f makes of a block of 512 bytes; a string of another length stays as it is.
+unfoldable pub onBlock : (f : List ℕ → List ℕ) → List ℕ → List ℕ
+onBlock f B = cond (eqb (length B) 512) (f B) B
 
 -- Under this key, and the tweak of this pack and place, the scheme is a cipher of 512 bytes.
 abbrev pub CipherAt : (S : Scheme) (key : List ℕ) (pack place : ℕ) → Type 0

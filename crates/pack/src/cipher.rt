@@ -1,27 +1,30 @@
-// HCH on a block of 512 bytes, under the tweak of a pack and a place.
+// HCH on a block of 512 bytes, under the tweak of a pack and a place and a key that was expanded before.
 ghost use mathlib.Core.Path.{_≡_};
-ghost use mathlib.Core.Bool.{true};
+ghost use mathlib.Core.List.{[]};
 ghost use lib.ListN.{length};
-ghost use Rattle.hch.specs.Hch.{hch as scheme};
+ghost use Rattle.hch.specs.Hch.{hchUnder};
 ghost use Rattle.layout.specs.Layout.{tweak as tweakOf};
-ghost use Rattle.pack.specs.Inner.{CipherAt};
+ghost use Rattle.pack.specs.Inner.{onBlock, CipherAt};
+use primitives::aes::ExpandedKey;
 
-// Enciphers the block in place.
-pub(crate) fn encipher(key: &[u8], pack: u64, place: u32, block: &mut [u8])
-    requires { ⌜ (scheme .isKey (now key) ≡ true) × (length (now block) ≡ 512) ⌝ }
-    ensures { λ _. ⌜ now (block .exit) ≡ scheme .encipher (now (key .entry)) (tweakOf pack place) (now (block .entry)) ⌝ }
-    ensures { λ _. ⌜ CipherAt scheme (now (key .entry)) pack place ⌝ }
+// Enciphers the block in place, or nothing where it has another length.
+pub fn encipher(expanded: ExpandedKey, pack: u64, place: u32, block: &mut [u8])
+    ensures { λ _. ⌜ now (block .exit) ≡ onBlock (hchUnder expanded .encipher [] (tweakOf pack place)) (now (block .entry)) ⌝ }
+    ensures { λ _. ⌜ (length (now (block .entry)) ≡ 512 → CipherAt (hchUnder expanded) [] pack place) ⌝ }
 {
-    let tweak = layout::tweak(pack, place);
-    hch::encipher(key, &tweak, block);
+    if block.len() == 512 {
+        let tweak = layout::tweak(pack, place);
+        hch::encipher_with(expanded, &tweak, block);
+    }
 }
 
-// Deciphers the block in place.
-pub(crate) fn decipher(key: &[u8], pack: u64, place: u32, block: &mut [u8])
-    requires { ⌜ (scheme .isKey (now key) ≡ true) × (length (now block) ≡ 512) ⌝ }
-    ensures { λ _. ⌜ now (block .exit) ≡ scheme .decipher (now (key .entry)) (tweakOf pack place) (now (block .entry)) ⌝ }
-    ensures { λ _. ⌜ CipherAt scheme (now (key .entry)) pack place ⌝ }
+// Deciphers the sealed block in place, or nothing where it has another length.
+pub fn decipher(expanded: ExpandedKey, pack: u64, place: u32, sealed: &mut [u8])
+    ensures { λ _. ⌜ now (sealed .exit) ≡ onBlock (hchUnder expanded .decipher [] (tweakOf pack place)) (now (sealed .entry)) ⌝ }
+    ensures { λ _. ⌜ (length (now (sealed .entry)) ≡ 512 → CipherAt (hchUnder expanded) [] pack place) ⌝ }
 {
-    let tweak = layout::tweak(pack, place);
-    hch::decipher(key, &tweak, block);
+    if sealed.len() == 512 {
+        let tweak = layout::tweak(pack, place);
+        hch::decipher_with(expanded, &tweak, sealed);
+    }
 }

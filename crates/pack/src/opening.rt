@@ -1,13 +1,16 @@
 // Opening a sealed block as that of a pack and a place.
-ghost use Prim.Native.Nat.{ℕ};
+ghost use Prim.Native.Nat.{ℕ, _≤_};
 ghost use mathlib.Core.Path.{_≡_};
-ghost use lib.ListN.{take};
+ghost use mathlib.Core.List.{List, []};
+ghost use lib.ListN.{length, take, drop};
 ghost use Rattle.strings.specs.Call.{looksAt, leftBy};
-ghost use Rattle.hch.specs.Hch.{hch as scheme};
+ghost use Rattle.strings.specs.Cipher.{Scheme};
+ghost use Rattle.hch.specs.Hch.{hch as scheme, hchUnder};
 ghost use Rattle.pack.specs.Opening.{numberOf, decipheredBlock, tests, answerOf, Meaning};
-ghost use Rattle.pack.specs.Inner.{Openable, Opens};
+ghost use Rattle.pack.specs.Inner.{Opens};
 use crate::cipher;
 use layout::Verdict;
+use primitives::aes::ExpandedKey;
 use strings::refusal::Answer;
 use strings::refusal::Refusal;
 
@@ -29,29 +32,40 @@ impl Opened {
     }
 }
 
-// What opening looks at before it deciphers, in 01's order.
-fn judge(key: &[u8], place: u32, block: &[u8]) -> Answer
-    ensures { λ r. ⌜ ((pack : ℕ) → r ≡ looksAt (take 3 (tests scheme (now (key .entry)) pack place (now (block .entry))))) ⌝ }
+// What opening looks at between the key and the check, in 01's order.
+fn judge(place: u32, block: &[u8]) -> Answer
+    ensures { λ r. ⌜ ((S : Scheme) (key : List ℕ) (pack : ℕ) → r ≡ looksAt (take 2 (drop 1 (tests S key pack place (now (block .entry)))))) ⌝ }
 {
-    let valid = hch::is_key(key);
     Answer::Done
-        .refuse_if(!valid, Refusal::KeyLength)
         .refuse_if(block.len() != 512, Refusal::BlockLength)
         .refuse_if(place > 65535, Refusal::PlaceTooHigh)
 }
 
 // Opens a block that the first tests pass. What fails its check is enciphered again, which gives the lent bytes back.
-fn open_block(key: &[u8], pack: u64, place: u32, block: &mut [u8]) -> Opened
-    requires { ⌜ Openable scheme (now key) place (now block) ⌝ }
-    ensures { λ r. ⌜ Opens scheme (now (key .entry)) pack place (now (block .entry)) r (now (block .exit)) ⌝ }
+fn open_block(expanded: ExpandedKey, pack: u64, place: u32, block: &mut [u8]) -> Opened
+    requires { ⌜ (length (now block) ≡ 512) × (place ≤ 65535) ⌝ }
+    ensures { λ r. ⌜ Opens (hchUnder expanded) [] pack place (now (block .entry)) r (now (block .exit)) ⌝ }
 {
-    cipher::decipher(key, pack, place, block);
+    cipher::decipher(expanded, pack, place, block);
     let verdict = layout::read(pack, place, block);
     let Verdict::Passed(u) = verdict else {
-        cipher::encipher(key, pack, place, block);
+        cipher::encipher(expanded, pack, place, block);
         return Opened::Refused(Refusal::CheckFailed);
     };
     Opened::Done(u)
+}
+
+// Opens the lent block under a key that was expanded before, or refuses and leaves it as it is.
+pub fn open_with(expanded: ExpandedKey, pack: u64, place: u32, block: &mut [u8]) -> Opened
+    ensures { λ r. ⌜ r ≡ answerOf (hchUnder expanded) [] pack place (now (block .entry)) ⌝ }
+    ensures { λ r. ⌜ now (block .exit) ≡ leftBy (numberOf r) (decipheredBlock (hchUnder expanded) [] pack place (now (block .entry))) (now (block .entry)) ⌝ }
+    ensures { λ r. ⌜ Meaning (hchUnder expanded) (numberOf r) [] pack place (now (block .entry)) (now (block .exit)) ⌝ }
+{
+    let answer = judge(place, block);
+    if let Answer::Refused(why) = answer {
+        return Opened::Refused(why);
+    }
+    open_block(expanded, pack, place, block)
 }
 
 // Opens the lent block as that of a pack and a place, or refuses and leaves it as it is.
@@ -60,9 +74,9 @@ pub fn open(key: &[u8], pack: u64, place: u32, block: &mut [u8]) -> Opened
     ensures { λ r. ⌜ now (block .exit) ≡ leftBy (numberOf r) (decipheredBlock scheme (now (key .entry)) pack place (now (block .entry))) (now (block .entry)) ⌝ }
     ensures { λ r. ⌜ Meaning scheme (numberOf r) (now (key .entry)) pack place (now (block .entry)) (now (block .exit)) ⌝ }
 {
-    let answer = judge(key, place, block);
-    if let Answer::Refused(why) = answer {
-        return Opened::Refused(why);
+    let expansion = hch::expand(key);
+    if expansion.is_key {
+        return open_with(expansion.expanded, pack, place, block);
     }
-    open_block(key, pack, place, block)
+    Opened::Refused(Refusal::KeyLength)
 }

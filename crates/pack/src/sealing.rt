@@ -28,8 +28,9 @@ pub fn seal(key: &[u8], payload: &[u8], pack: u64, place: u32, block: &mut [u8])
 {
     let answer = judge(key, payload, place, block);
     if let Answer::Done = answer {
+        let expansion = hch::expand(key);
         layout::write(payload, pack, place, block);
-        cipher::encipher(key, pack, place, block);
+        cipher::encipher(expansion.expanded, pack, place, block);
     }
     answer
 }

@@ -17,5 +17,6 @@ theorems = record {
   bytes-of-sum = bytes-xor;
   count-numbers = One.count-one;
   count-strings = One.count-strings;
+  two-parts = λ m n f g s t. One.two-parts;
   one-preimage = λ n f g. One.one-preimage;
 }

@@ -25,3 +25,9 @@ pub record Scheme : Type 0 where
   pub isKey : List ℕ → Bool
   pub encipher : (key tweak message : List ℕ) → List ℕ
   pub decipher : (key tweak message : List ℕ) → List ℕ
+
+-- Two schemes, each with a key of its own, that take the key alike and do the same under it.
+pub record Same (S : Scheme) (key : List ℕ) (S′ : Scheme) (key′ : List ℕ) : Type 0 where
+  pub takes : S .isKey key ≡ S′ .isKey key′
+  pub enciphers : S .encipher key ≡ S′ .encipher key′
+  pub deciphers : S .decipher key ≡ S′ .decipher key′

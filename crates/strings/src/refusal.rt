@@ -14,6 +14,7 @@ pub enum Refusal {
     BlockLength,
     CheckFailed,
     PackLength,
+    ListLength,
 }
 
 pub enum Answer {
@@ -36,6 +37,7 @@ impl Refusal {
             Refusal::BlockLength => 7,
             Refusal::CheckFailed => 8,
             Refusal::PackLength => 10,
+            Refusal::ListLength => 11,
         }
     }
 }

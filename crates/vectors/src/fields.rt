@@ -9,6 +9,8 @@ use crate::BYTES;
 use crate::LIMIT;
 use blocks::block::Block;
 use libc::STDOUT_FILENO;
+use strings::number;
+use strings::places;
 use text::hex::Decoded;
 
 // Zeros, as room for the bytes of a field. The `ensures` gives only the length, which lending the array as a slice needs: the proof of
@@ -17,6 +19,13 @@ pub(crate) fn room() -> [u8; BYTES]
     ensures { λ r. ⌜ 67584 ≡ length r ⌝ }
 {
     [0u8; BYTES]
+}
+
+// Zeros, as room for the entries of a list: all that the digits of a line can stand for.
+pub(crate) fn list_room() -> [u16; BYTES / 2]
+    ensures { λ r. ⌜ 33792 ≡ length r ⌝ }
+{
+    [0u16; BYTES / 2]
 }
 
 // Decodes the blocks that stand in `line`, one space between two, to the front of `data`, and answers
@@ -74,6 +83,41 @@ pub(crate) fn decode_two(line: &[u8], first: &mut [u8], last: &mut [u8]) -> Two
     Two::Lengths(m, n)
 }
 
+// Reads the entries of a list from its bytes, two for each, to the front of `list`, as many as it has room for, and answers how many.
+pub(crate) fn list_from(bytes: &[u8], list: &mut [u16]) -> usize
+    ensures { λ r. ⌜ r ≤ length (now (list .entry)) ⌝ }
+{
+    let n = places::least(bytes.len() / 2, list.len());
+    let mut i = 0;
+    while i < n {
+        list[i] = number::get(bytes, 2 * i, 2) as u16;
+        i += 1;
+    }
+    n
+}
+
+// Writes a list as bytes, two for each entry, to the front of `out`, as many entries as it has room for, and answers the number of
+// bytes.
+fn list_bytes(list: &[u16], out: &mut [u8]) -> usize
+    ensures { λ r. ⌜ r ≤ length (now (out .entry)) ⌝ }
+{
+    let n = places::least(list.len(), out.len() / 2);
+    let mut i = 0;
+    while i < n {
+        number::put(out, 2 * i, 2, list[i] as u64);
+        i += 1;
+    }
+    2 * n
+}
+
+// Writes a list and a space.
+pub(crate) fn put_list(list: &[u16]) {
+    let mut bytes = room();
+    let n = list_bytes(list, &mut bytes);
+    let mut spaces = [b' '; LIMIT + 1];
+    put_bytes(&bytes[0..n], &mut spaces);
+}
+
 // Writes a block as a line.
 pub(crate) fn put_block(b: Block) {
     let mut bytes = [0u8; 16];
@@ -82,14 +126,20 @@ pub(crate) fn put_block(b: Block) {
     put_bytes(&bytes, &mut line);
 }
 
-// Writes bytes as a line, by way of `line`, in which the caller lends line feeds, more than there are digits: the digits go to
-// the front, and one line feed is written with them.
-pub(crate) fn put_bytes(bytes: &[u8], line: &mut [u8]) {
-    let n = text::hex::encode(bytes, line);
-    if n < line.len() {
+// Writes bytes and a line feed, or a space where they do not end the answer, by way of `out`, in which the caller lends that
+// character, more of it than there are digits: the digits go to the front, and one such character is written with them.
+pub(crate) fn put_bytes(bytes: &[u8], out: &mut [u8]) {
+    let n = text::hex::encode(bytes, out);
+    if n < out.len() {
         let end = n + 1;
-        io::write_all(STDOUT_FILENO, &line[0..end]);
+        io::write_all(STDOUT_FILENO, &out[0..end]);
     }
+}
+
+// Writes bytes as the end of an answer.
+pub(crate) fn put_line(bytes: &[u8]) {
+    let mut line = [b'\n'; LIMIT + 1];
+    put_bytes(bytes, &mut line);
 }
 
 // Writes the answer of a call: the bytes, or `no` and the number of the refusal. Where the line lent the bytes, it is the number and
@@ -104,6 +154,5 @@ pub(crate) fn put_answer(lent: bool, number: u32, bytes: &[u8]) {
         io::write_all(STDOUT_FILENO, b"\n");
         return;
     }
-    let mut line = [b'\n'; LIMIT + 1];
-    put_bytes(bytes, &mut line);
+    put_line(bytes);
 }

@@ -17,11 +17,16 @@
 //     ls k p n d b    as `ps`, into the lent block b
 //     lo k p n b      as `po`, on the lent block b
 //     lf c n b        b written to the front of the block at the place n of the lent pack c, cut where that ends
+//     rs k p n l r    the lent run r sealed, with the list of lengths l, for the pack p and the places from n on
+//     ro k p n l r    the lent run r opened, its lengths written to the lent list l
 //
-// p has 16 digits and n has 8. The fields k, t, d, b and c of the last ten may have any length, and be
-// empty; those of the others are blocks. What HCH or the pack refuses is answered `no` and the number
-// of the reason. The last five answer the call's number, 0 where it was done, a space, and all the
-// lent bytes as the call leaves them.
+// p has 16 digits and n has 8; l has 4 for each entry. The fields k, t, d, b, c, l and r of the last
+// twelve may have any length, and be empty; those of the others are blocks. What HCH or the pack
+// refuses is answered `no` and the number of the reason. The last seven answer the call's number, 0
+// where it was done, a space, and all the lent bytes as the call leaves them. In front of these, `ro`
+// answers the place of the block that would not open, where that is the reason, and the list as it is
+// left, with a space behind each.
+mod batch;
 mod fields;
 mod finding;
 mod message;
@@ -124,7 +129,7 @@ fn run(command: &[u8], rest: &[u8]) -> bool {
         if scheme == b'l' && way == b'f' {
             return finding::reply_lent(rest);
         }
-        if scheme == b'h' || scheme == b'p' || scheme == b'l' {
+        if scheme == b'h' || scheme == b'p' || scheme == b'l' || scheme == b'r' {
             return run_keyed(scheme, way, rest);
         }
     }
@@ -147,7 +152,7 @@ fn run_keyed(scheme: u8, way: u8, rest: &[u8]) -> bool {
     if scheme == b'h' || lent && (way == b'e' || way == b'd') {
         return message::reply(lent, way, key, rest);
     }
-    sealing::reply(lent, way, key, rest)
+    sealing::reply(scheme, way, key, rest)
 }
 
 // A command on the bytes of its blocks.

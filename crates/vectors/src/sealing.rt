@@ -1,4 +1,5 @@
 // The commands of a pack: a key, the number of the pack, a place, and a payload to seal or a block to open.
+use crate::batch;
 use crate::fields;
 use crate::fields::Two;
 use blocks::block::Block;
@@ -6,9 +7,9 @@ use libc::STDOUT_FILENO;
 use pack::Opened;
 use text::hex::Decoded;
 
-// Answers a command of a pack behind its key and says so, or writes nothing. Two numbers come first, of 16 and 8 digits and a
-// space each.
-pub(crate) fn reply(lent: bool, way: u8, key: &[u8], rest: &[u8]) -> bool {
+// Answers a command of a pack, or of a run of blocks, behind its key and says so, or writes nothing. Two numbers come first, of 16
+// and 8 digits and a space each.
+pub(crate) fn reply(scheme: u8, way: u8, key: &[u8], rest: &[u8]) -> bool {
     let mut pack = [0u8; 8];
     if !fields::filled(rest, &mut pack) {
         return false;
@@ -19,8 +20,11 @@ pub(crate) fn reply(lent: bool, way: u8, key: &[u8], rest: &[u8]) -> bool {
     }
     let rest = &rest[26..];
     let pack = Block::read(&pack, 0).hi;
-    let place = Block::read(&place, 0).hi >> 32;
-    run(lent, way, key, pack, place as u32, rest)
+    let place = (Block::read(&place, 0).hi >> 32) as u32;
+    if scheme == b'r' {
+        return batch::reply(way, key, pack, place, rest);
+    }
+    run(scheme == b'l', way, key, pack, place, rest)
 }
 
 // Seals the last field of the line as a payload, or opens it as a block; a line that lends a block for sealing has one field more.

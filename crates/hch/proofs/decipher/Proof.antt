@@ -1,82 +1,53 @@
--- The tests, and the work where they are passed. What is left is then the one message that enciphers to what was lent.
+-- A key is expanded, and the work is that under the expanded key; what is no key is told first. What is left is the one message that enciphers to what was lent.
 -- Assumes nothing.
-use mathlib.Core.Path.{_≡_, refl, sym, ap, _∙_}
+use mathlib.Core.Path.{_≡_, refl, sym, _∙_}
+use mathlib.Core.Bool.{true, false}
+use native.Mathlib.Omega.{arith}
 use borrow.Author.Needs.{needs}
 use denote.Ref.{now}
 use lib.ListN.{length}
-use Rattle.primitives.specs.Aes.{aes}
-use Rattle.blocks.proofs.Blocks.{block-whole}
-use Rattle.hch.specs.Hch.{deciphered}
-use Rattle.strings.specs.Call.{numberOf}
+use Rattle.strings.specs.Call.{numberOf, leftBy}
 use Rattle.strings.proofs.One.{one-preimage}
-use Rattle.strings.proofs.Refusals.{refused-some, refused-leaves}
-use Rattle.hch.proofs.Call.{admitted}
-use Rattle.hch.proofs.Theorems.{hch-cipher}
+use Rattle.hch.specs.Hch.{hch, deciphered}
+use Rattle.hch.specs.Call.{IsCipher}
+use Rattle.hch.proofs.Call.{behind-key, no-key}
 use Rattle.hch.proofs.decipher.Statement.{statement}
 use Rattle.hch.proofs.decipher.Tie as tie
 
-judge-requires : tie.Need-judge-requires
-judge-requires c κs = search needs
+expand-requires : tie.Need-expand-requires
+expand-requires c κs = search needs
 
-enum-told : tie.Need-enum-told
-enum-told c = search needs
-
-new-requires : tie.Need-new-requires
-new-requires c κs = search needs
-
-read-requires : tie.Need-read-requires
-read-requires c κs = search needs
-
-decipher-message-requires : tie.Need-decipher-message-requires
-decipher-message-requires c κs =
-    let told = c .before .before .before .before in
-    let judged = told .before .before in
-    let args = judged .before .before .before .before .before .args in
-    let a = admitted (now (args .key)) (now (args .tweak)) (now (args .ciphertext)) (ap numberOf (sym (judged .judge .ensures) ∙ told .enum-told .given .1)) in
-    (a .at-least, a .at-most)
+decipher-with-requires : tie.Need-decipher-with-requires
+decipher-with-requires c κs = search needs
 
 same-length : tie.Need-same-length
 same-length c = search needs
 
 returns : tie.Need-returns
-unfolding deciphered aes
 returns c =
-    let b = c .before .before in
-    let read = b .before .before in
-    let new = read .before .before in
-    let told = new .before in
-    let judged = told .before .before in
-    let lent = judged .before .before in
-    let args = lent .before .before .before .args in
-    let done = told .enum-told .given .1 in
-    let a = admitted (now (args .key)) (now (args .tweak)) (now (args .ciphertext)) (ap numberOf (sym (judged .judge .ensures) ∙ done)) in
-    let left : b .decipher-message .last .1 .1 .0 ≡ deciphered (now (args .key)) (now (args .tweak)) (now (args .ciphertext)) =
-    rw (b .decipher-message .ensures, new .new .ensures .1, a .is-key, read .read .ensures, block-whole (now (args .tweak)) (a .tweak-length)) in
-    let cipher = hch-cipher (now (args .key)) (now (args .tweak)) (length (now (args .ciphertext))) (a .tweak-length, λ i. lent .before .shared-slice-known2 .given i .fits) (a .at-least) in
-    (judged .judge .ensures, (rw (done, left), (λ e. cipher, λ e. rw left (one-preimage cipher (now (args .ciphertext)) (refl, λ i. lent .slice-known .given i .fits)))))
-
-enum-told-2 : tie.Need-enum-told-2
-enum-told-2 c = search needs
-
-same-length-2 : tie.Need-same-length-2
-same-length-2 c = search needs
+    let work = c .before .before in
+    let then = work .before .before in
+    let start = then .before in
+    let args = start .before .before .before .before .args in
+    let key = now (args .key) in
+    let tweak = now (args .tweak) in
+    let C = now (args .ciphertext) in
+    let k : hch .isKey key ≡ true = sym (start .expand .ensures .0) ∙ then .if1 .taken in
+    let same = start .expand .ensures .1 .1 .0 k in
+    let done = work .decipher-with .ensures in
+    let number = numberOf (work .decipher-with .result) in
+    let left : work .decipher-with .last .1 .1 .0 ≡ leftBy number (deciphered key tweak C) C = rw (sym (same .deciphers)) (done .1 .0) in
+    let cipher : IsCipher number key tweak (length C) = rw (sym (same .enciphers), sym (same .deciphers)) (done .1 .1) in (
+      done .0 ∙ behind-key key tweak C k,
+      (left, (cipher, λ e. rw (left, e) (one-preimage (cipher e) C (refl, λ i. start .before .slice-known .given i .fits)))),
+    )
 
 returns-2 : tie.Need-returns-2
 returns-2 c =
-    let why = c .enum-told2 .given .1 in
-    (c .before .before .judge .ensures, (refused-leaves why _ _, (λ e. absurd (refused-some why e), λ e. absurd (refused-some why e))))
+    let start = c .before in
+    let args = start .before .before .before .before .args in
+    let k : hch .isKey (now (args .key)) ≡ false = sym (start .expand .ensures .0) ∙ c .if1 .left in
+    (sym (no-key (now (args .key)) (now (args .tweak)) (now (args .ciphertext)) k), (refl, (λ e. absurd (omega (arith, e)), λ e. absurd (omega (arith, e)))))
 
 pub decipher-spec : {M : Type 1} → statement M
-decipher-spec =
-    tie.close
-    (tie.spec
-    judge-requires
-    enum-told
-    new-requires
-    read-requires
-    decipher-message-requires
-    enum-told-2
-    same-length
-    returns
-    same-length-2
-    returns-2)
+decipher-spec = tie.close (tie.spec expand-requires decipher-with-requires same-length returns returns-2)

@@ -1,81 +1,44 @@
--- The tests, and the work where they are passed: the key expanded and the tweak read as a block.
+-- A key is expanded, and the work is that under the expanded key; what is no key is told first.
 -- Assumes nothing.
-use mathlib.Core.Path.{_≡_, sym, ap, _∙_}
+use mathlib.Core.Path.{_≡_, refl, sym, _∙_}
+use mathlib.Core.Bool.{true, false}
+use native.Mathlib.Omega.{arith}
 use borrow.Author.Needs.{needs}
 use denote.Ref.{now}
-use lib.ListN.{length}
-use Rattle.primitives.specs.Aes.{aes}
-use Rattle.blocks.proofs.Blocks.{block-whole}
-use Rattle.hch.specs.Hch.{enciphered}
-use Rattle.strings.specs.Call.{numberOf}
-use Rattle.strings.proofs.Refusals.{refused-some, refused-leaves}
-use Rattle.hch.proofs.Call.{admitted}
-use Rattle.hch.proofs.Theorems.{hch-cipher}
+use Rattle.hch.specs.Hch.{hch}
+use Rattle.hch.proofs.Call.{behind-key, no-key}
 use Rattle.hch.proofs.encipher.Statement.{statement}
 use Rattle.hch.proofs.encipher.Tie as tie
 
-judge-requires : tie.Need-judge-requires
-judge-requires c κs = search needs
+expand-requires : tie.Need-expand-requires
+expand-requires c κs = search needs
 
-enum-told : tie.Need-enum-told
-enum-told c = search needs
-
-new-requires : tie.Need-new-requires
-new-requires c κs = search needs
-
-read-requires : tie.Need-read-requires
-read-requires c κs = search needs
-
-encipher-message-requires : tie.Need-encipher-message-requires
-encipher-message-requires c κs =
-    let told = c .before .before .before .before in
-    let judged = told .before .before in
-    let args = judged .before .before .before .before .before .args in
-    let a = admitted (now (args .key)) (now (args .tweak)) (now (args .message)) (ap numberOf (sym (judged .judge .ensures) ∙ told .enum-told .given .1)) in
-    (a .at-least, a .at-most)
+encipher-with-requires : tie.Need-encipher-with-requires
+encipher-with-requires c κs = search needs
 
 same-length : tie.Need-same-length
 same-length c = search needs
 
 returns : tie.Need-returns
-unfolding enciphered aes
 returns c =
-    let b = c .before .before in
-    let read = b .before .before in
-    let new = read .before .before in
-    let told = new .before in
-    let judged = told .before .before in
-    let lent = judged .before .before in
-    let args = lent .before .before .before .args in
-    let done = told .enum-told .given .1 in
-    let a = admitted (now (args .key)) (now (args .tweak)) (now (args .message)) (ap numberOf (sym (judged .judge .ensures) ∙ done)) in
-    let left : b .encipher-message .last .1 .1 .0 ≡ enciphered (now (args .key)) (now (args .tweak)) (now (args .message)) =
-    rw (b .encipher-message .ensures, new .new .ensures .1, a .is-key, read .read .ensures, block-whole (now (args .tweak)) (a .tweak-length)) in
-    let cipher = hch-cipher (now (args .key)) (now (args .tweak)) (length (now (args .message))) (a .tweak-length, λ i. lent .before .shared-slice-known2 .given i .fits) (a .at-least) in
-    (judged .judge .ensures, (rw (done, left), λ e. cipher))
-
-enum-told-2 : tie.Need-enum-told-2
-enum-told-2 c = search needs
-
-same-length-2 : tie.Need-same-length-2
-same-length-2 c = search needs
+    let work = c .before .before in
+    let then = work .before .before in
+    let start = then .before in
+    let args = start .before .before .before .before .args in
+    let key = now (args .key) in
+    let k : hch .isKey key ≡ true = sym (start .expand .ensures .0) ∙ then .if1 .taken in
+    let same = start .expand .ensures .1 .1 .0 k in
+    let done = work .encipher-with .ensures in (
+      done .0 ∙ behind-key key (now (args .tweak)) (now (args .message)) k,
+      (rw (sym (same .enciphers)) (done .1 .0), rw (sym (same .enciphers), sym (same .deciphers)) (done .1 .1)),
+    )
 
 returns-2 : tie.Need-returns-2
 returns-2 c =
-    let why = c .enum-told2 .given .1 in
-    (c .before .before .judge .ensures, (refused-leaves why _ _, λ e. absurd (refused-some why e)))
+    let start = c .before in
+    let args = start .before .before .before .before .args in
+    let k : hch .isKey (now (args .key)) ≡ false = sym (start .expand .ensures .0) ∙ c .if1 .left in
+    (sym (no-key (now (args .key)) (now (args .tweak)) (now (args .message)) k), (refl, λ e. absurd (omega (arith, e))))
 
 pub encipher-spec : {M : Type 1} → statement M
-encipher-spec =
-    tie.close
-    (tie.spec
-    judge-requires
-    enum-told
-    new-requires
-    read-requires
-    encipher-message-requires
-    enum-told-2
-    same-length
-    returns
-    same-length-2
-    returns-2)
+encipher-spec = tie.close (tie.spec expand-requires encipher-with-requires same-length returns returns-2)

@@ -2,10 +2,9 @@
 -- Assumes nothing.
 use borrow.Author.Needs.{needs}
 use denote.Ref.{now}
-use lib.ListN.{take}
+use lib.ListN.{take, drop}
 use Rattle.strings.specs.Inner.{inTurn}
 use Rattle.strings.proofs.Refusals.{in-turn}
-use Rattle.hch.specs.Hch.{hch}
 use Rattle.pack.specs.Opening.{tests}
 use Rattle.pack.proofs.opening.judge.Statement.{statement}
 use Rattle.pack.proofs.opening.judge.Tie as tie
@@ -13,12 +12,9 @@ use Rattle.pack.proofs.opening.judge.Tie as tie
 returns : tie.Need-returns
 unfolding tests inTurn
 returns c =
-    let second = c .before in
-    let first = second .before in
-    let asked = first .before in
-    let a = asked .before .before .before .args in
-    λ pack. rw (c .refuse-if3 .ensures, second .refuse-if2 .ensures, first .refuse-if .ensures, asked .is-key .ensures)
-    (in-turn (take 3 (tests hch (now (a .key)) pack (a .place) (now (a .block)))))
+    let first = c .before in
+    let a = first .before .before .args in
+    λ S key pack. rw (c .refuse-if2 .ensures, first .refuse-if .ensures) (in-turn (take 2 (drop 1 (tests S key pack (a .place) (now (a .block))))))
 
 pub judge-spec : {M : Type 1} → statement M
-judge-spec = tie.close (tie.spec (λ c κs. search needs) (λ c κs. search needs) (λ c κs. search needs) (λ c κs. search needs) returns)
+judge-spec = tie.close (tie.spec (λ c κs. search needs) (λ c κs. search needs) returns)

@@ -1,56 +1,50 @@
--- A refusal before the block is deciphered is that of the first tests; else the check decides.
+-- A key is expanded, and the work is that under the expanded key; what is no key is told first.
 -- Assumes nothing.
-use mathlib.Core.Path.{sym, _∙_}
+use mathlib.Core.Path.{_≡_, sym, _∙_}
+use mathlib.Core.Bool.{true, false}
+use native.Mathlib.Omega.{arith}
 use borrow.Author.Needs.{needs}
 use denote.Ref.{now}
 use Rattle.hch.specs.Hch.{hch}
-use Rattle.pack.proofs.OneBlock.{openable, refused-first}
+use Rattle.layout.specs.Layout.{tweak}
+use Rattle.layout.proofs.Check.{tweak-of-length}
+use Rattle.pack.proofs.OneBlock.{no-key, opens}
+use Rattle.pack.proofs.Same.{same-cipher, same-deciphered, same-answer}
 use Rattle.pack.proofs.opening.open.Statement.{statement}
 use Rattle.pack.proofs.opening.open.Tie as tie
 
-judge-requires : tie.Need-judge-requires
-judge-requires c κs = search needs
+expand-requires : tie.Need-expand-requires
+expand-requires c κs = search needs
 
-enum-known-answer : tie.Need-enum-known-answer
-enum-known-answer c = search needs
+open-with-requires : tie.Need-open-with-requires
+open-with-requires c κs = search needs
 
 same-length : tie.Need-same-length
 same-length c = search needs
 
 returns : tie.Need-returns
 returns c =
-    let refused = c .before .answer .given in
-    let judged = c .before .before .before in
-    let a = judged .before .before .before .before .args in
-    let first = refused-first hch (now (a .key)) (a .pack) (a .place) (now (a .block)) (sym (judged .judge .ensures (a .pack)) ∙ refused .1) in
-    (first .answered, (first .left, first .meaning))
-
-enum-told : tie.Need-enum-told
-enum-told c = search needs
-
-open-block-requires : tie.Need-open-block-requires
-open-block-requires c κs =
-    let tested = c .before .before .before in
-    let lent = tested .before .before .before .before .args in
-    openable hch (now (lent .key)) (lent .pack) (lent .place) (now (lent .block)) (sym (tested .judge .ensures (lent .pack)) ∙ c .before .enum-told .given .1)
-
-same-length-2 : tie.Need-same-length-2
-same-length-2 c = search needs
+    let work = c .before .before in
+    let then = work .before .before in
+    let start = then .before in
+    let a = start .before .before .before .args in
+    let key = now (a .key) in
+    let C = now (a .block) in
+    let k : hch .isKey key ≡ true = sym (start .expand .ensures .0) ∙ then .if1 .taken in
+    let same = start .expand .ensures .1 .1 .0 k in
+    let cipher = same-cipher same 16 512 (start .expand .ensures .1 .1 .1 512 (omega arith)) in
+    let e = work .open-with .ensures in
+    let opened =
+    opens hch key (a .pack) (a .place) (cipher (tweak (a .pack) (a .place)) (tweak-of-length (a .pack) (a .place))) C _ _
+    (λ i. start .before .slice-known .given i .fits) (e .0 ∙ same-answer same (a .pack) (a .place) C) (rw (same-deciphered same (a .pack) (a .place) C) at (e .1 .0)) in
+    (opened .answered, (opened .left, opened .meaning))
 
 returns-2 : tie.Need-returns-2
 returns-2 c =
-    let opened = c .before .before .open-block .ensures in
-    (opened .answered, (opened .left, opened .meaning))
+    let start = c .before in
+    let a = start .before .before .before .args in
+    let none = no-key hch (now (a .key)) (a .pack) (a .place) (now (a .block)) (sym (start .expand .ensures .0) ∙ c .if1 .left) in
+    (none .answered, (none .left, none .meaning))
 
 pub open-spec : {M : Type 1} → statement M
-open-spec =
-    tie.close
-    (tie.spec
-    judge-requires
-    enum-known-answer
-    same-length
-    returns
-    enum-told
-    open-block-requires
-    same-length-2
-    returns-2)
+open-spec = tie.close (tie.spec expand-requires open-with-requires same-length returns returns-2)

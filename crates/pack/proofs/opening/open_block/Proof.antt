@@ -1,13 +1,17 @@
 -- The check decides; what fails it is enciphered again.
 -- Assumes nothing.
-use mathlib.Core.Path.{_≡_, sym, _∙_}
+use mathlib.Core.Path.{_≡_, refl, sym, _∙_}
+use mathlib.Core.List.{[]}
 use mathlib.Core.Bool.{true, false}
 use borrow.Author.Needs.{needs}
+use borrow.Author.Tests.{eq-eqb}
 use denote.Ref.{now}
+use lib.ListN.{length}
 use Rattle.strings.specs.declared.refusal.Refusal.the-variants.{CheckFailed}
-use Rattle.hch.specs.Hch.{hch}
+use Rattle.hch.specs.Hch.{hchUnder}
 use Rattle.layout.proofs.Check.{read-passed, read-failed}
 use Rattle.pack.specs.Opening.{decipheredBlock}
+use Rattle.pack.specs.Inner.{onBlock, Openable}
 use Rattle.pack.specs.declared.opening.Opened.the-variants.{Done, Refused}
 use Rattle.pack.proofs.OneBlock.{by-check, given-back, opens}
 use Rattle.pack.proofs.opening.open_block.Statement.{statement}
@@ -32,45 +36,54 @@ same-length : tie.Need-same-length
 same-length c = search needs
 
 returns : tie.Need-returns
-unfolding decipheredBlock
+unfolding decipheredBlock onBlock
 returns c =
     let again = c .before .before in
     let told = again .before .before in
     let read = told .before .before in
     let d = read .before .before .before .before in
     let known = d .before .before in
-    let start = known .before .before in
+    let start = known .before in
     let a = start .args in
-    let key = now (a .key) in
+    let S = hchUnder (a .expanded) in
     let C = now (a .block) in
-    let B = decipheredBlock hch key (a .pack) (a .place) C in
-    let plain : d .decipher .last .1 .1 .1 .0 ≡ B = d .decipher .ensures .0 in
-    let promised = opens hch key (a .pack) (a .place) (d .decipher .ensures .1) C in
-    let failed = read-failed (a .pack) (a .place) B (sym (told .enum-told .given .1) ∙ rw plain at (read .read .ensures)) in
+    let pack = a .pack in
+    let place = a .place in
+    let size = start .pre .0 in
+    let B = decipheredBlock S [] pack place C in
+    let o : Openable S [] place C = record { is-key = refl; block-length = size; place-limit = start .pre .1 } in
+    let cipher = d .decipher .ensures .1 size in
+    let plain : d .decipher .last .1 .1 .1 .0 ≡ B = rw (d .decipher .ensures .0, eq-eqb (length C) 512 size) in
+    let long : length B ≡ 512 = cipher .inverse-keeps C (size, λ i. known .slice-known .given i .fits) .0 in
+    let failed = read-failed pack place B (sym (told .enum-told .given .1) ∙ rw plain at (read .read .ensures)) in
     let left : again .encipher .last .1 .1 .1 .0 ≡ C =
-    rw (again .encipher .ensures .0, plain)
-    (given-back hch key (a .pack) (a .place) (d .decipher .ensures .1) C (start .pre .block-length, λ i. known .slice-known .given i .fits)) in
-    promised _ (Refused CheckFailed) (λ i. known .slice-known .given i .fits) (sym (by-check hch key (a .pack) (a .place) C (start .pre) false failed)) left
+    rw (again .encipher .ensures .0, plain, eq-eqb (length B) 512 long)
+    (given-back S [] pack place cipher C (size, λ i. known .slice-known .given i .fits)) in
+    opens S [] pack place cipher C _ (Refused CheckFailed) (λ i. known .slice-known .given i .fits) (sym (by-check S [] pack place C o false failed)) left
 
 same-length-2 : tie.Need-same-length-2
 same-length-2 c = search needs
 
 returns-2 : tie.Need-returns-2
-unfolding decipheredBlock
+unfolding decipheredBlock onBlock
 returns-2 c =
     let verdict = c .before .verdict .given in
     let read = c .before .before .before in
     let d = read .before .before .before .before in
     let known = d .before .before in
-    let start = known .before .before in
+    let start = known .before in
     let a = start .args in
-    let key = now (a .key) in
+    let S = hchUnder (a .expanded) in
     let C = now (a .block) in
-    let B = decipheredBlock hch key (a .pack) (a .place) C in
-    let plain : d .decipher .last .1 .1 .1 .0 ≡ B = d .decipher .ensures .0 in
-    let promised = opens hch key (a .pack) (a .place) (d .decipher .ensures .1) C in
-    let passed = read-passed (a .pack) (a .place) B (verdict .0 .0) (sym (verdict .1) ∙ rw plain at (read .read .ensures)) in
-    promised _ (Done _) (λ i. known .slice-known .given i .fits) (rw (passed .1) (sym (by-check hch key (a .pack) (a .place) C (start .pre) true (passed .0)))) plain
+    let pack = a .pack in
+    let place = a .place in
+    let size = start .pre .0 in
+    let B = decipheredBlock S [] pack place C in
+    let o : Openable S [] place C = record { is-key = refl; block-length = size; place-limit = start .pre .1 } in
+    let cipher = d .decipher .ensures .1 size in
+    let plain : d .decipher .last .1 .1 .1 .0 ≡ B = rw (d .decipher .ensures .0, eq-eqb (length C) 512 size) in
+    let passed = read-passed pack place B (verdict .0 .0) (sym (verdict .1) ∙ rw plain at (read .read .ensures)) in
+    opens S [] pack place cipher C _ (Done _) (λ i. known .slice-known .given i .fits) (rw (passed .1) (sym (by-check S [] pack place C o true (passed .0)))) plain
 
 pub open-block-spec : {M : Type 1} → statement M
 open-block-spec =

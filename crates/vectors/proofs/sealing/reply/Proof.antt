@@ -64,14 +64,20 @@ slice-aggregate-read-2 c = search needs
 read-requires-2 : tie.Need-read-requires-2
 read-requires-2 c κs = search needs
 
-cast-run : tie.Need-cast-run
-cast-run c = search needs
+cast-place : tie.Need-cast-place
+cast-place c = search needs
+
+reply-requires : tie.Need-reply-requires
+reply-requires c κs = search needs
+
+returns-3 : tie.Need-returns-3
+returns-3 c = search needs
 
 run-requires : tie.Need-run-requires
 run-requires c κs = search needs
 
-returns-3 : tie.Need-returns-3
-returns-3 c = search needs
+returns-4 : tie.Need-returns-4
+returns-4 c = search needs
 
 pub reply-spec : {M : Type 1} → statement M
 reply-spec =
@@ -93,6 +99,8 @@ reply-spec =
     read-requires
     slice-aggregate-read-2
     read-requires-2
-    cast-run
+    cast-place
+    reply-requires
+    returns-3
     run-requires
-    returns-3)
+    returns-4)

@@ -1,0 +1,10 @@
+pub mod Blocks
+pub mod Lists
+pub mod Sizes
+pub mod Answers
+pub mod Same
+pub mod Orders
+pub mod Limits
+pub mod OneRun
+pub mod Meaning
+pub mod Theorems

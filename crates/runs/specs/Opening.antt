@@ -1,0 +1,128 @@
+-- Opening a run by a scheme S: what it answers, what it leaves, and what that means.
+use Prim.Native.Nat.{ℕ, zero, suc, _+_, _*_, _≤_, _<_}
+use mathlib.Core.Path.{_≡_}
+use mathlib.Core.Bool.{Bool, true, false, not, _&&_}
+use mathlib.Core.List.{List, [], _∷_, _++_}
+use lib.Dec.{ltb, eqb}
+use lib.ListN.{length, take, replicate}
+use Rattle.strings.specs.Bytes.{equal}
+use Rattle.strings.specs.Cipher.{Scheme}
+use Rattle.strings.specs.One.{OneString}
+use Rattle.strings.specs.Call.{refusalNumber, Tests, looksAt, leftBy}
+use Rattle.strings.specs.declared.refusal.Answer.{Answer}
+use Rattle.strings.specs.declared.refusal.Answer.the-variants.{Done as NoTestHolds, Refused as FirstIs}
+use Rattle.strings.specs.declared.refusal.Refusal.the-variants.{KeyLength, PlaceTooHigh, PackLength, ListLength}
+use Rattle.layout.specs.Layout.{used}
+use Rattle.layout.specs.Finding.{blockCount, isPack, part}
+use Rattle.pack.specs.Opening.{numberOf as numberOfBlock, decipheredBlock, answerOf as answerOfBlock, NoPayload}
+use Rattle.pack.specs.declared.opening.Opened.{Opened}
+use Rattle.pack.specs.declared.opening.Opened.the-variants.{Done as BlockOpened, Refused as BlockRefused}
+use Rattle.runs.specs.Run.{blockwise, lastPlace}
+use Rattle.runs.specs.Sealing.{someOver, payloadAt, sealedRun}
+use Rattle.runs.specs.declared.opening.RunOpened.{RunOpened}
+use Rattle.runs.specs.declared.opening.RunOpened.the-variants.{Done, Refused, Failed}
+
+-- The number, 0 for a call that was done, and what a call returns beside it: the place of the block that would not open.
+abbrev pub numberOf : RunOpened → ℕ
+numberOf Done = 0
+numberOf (Refused why) = refusalNumber why
+numberOf (Failed why place) = refusalNumber why
+
+abbrev pub valuesOf : RunOpened → List ℕ
+valuesOf Done = []
+valuesOf (Refused why) = []
+valuesOf (Failed why place) = place ∷ []
+
+-- What the app's out parameter holds after a call: the place of the block that would not open, or what it held before.
+abbrev pub failedPlace : RunOpened → (lent : ℕ) → ℕ
+failedPlace Done lent = lent
+failedPlace (Refused why) lent = lent
+failedPlace (Failed why place) lent = place
+
+-- The answer after one block more: a block is opened only where those before it have opened.
+abbrev pub next : RunOpened → Opened → (place : ℕ) → RunOpened
+next Done (BlockOpened u) place = Done
+next Done (BlockRefused why) place = Failed why place
+next (Refused why) opened place = Refused why
+next (Failed why first) opened place = Failed why first
+
+-- The answer by the tests, and by the blocks where none of them holds.
+abbrev pub after : Answer → RunOpened → RunOpened
+after NoTestHolds opened = opened
+after (FirstIs why) opened = Refused why
+
+-- The lengths of n payloads.
+unfoldable pub lengthsOf : (payload : ℕ → List ℕ) (n : ℕ) → List ℕ
+lengthsOf payload zero = []
+lengthsOf payload (suc n) = lengthsOf payload n ++ (length (payload n) ∷ [])
+
+-- Whether n blocks begin with their payloads.
+unfoldable pub beginWith : (payload : ℕ → List ℕ) (n : ℕ) (run : List ℕ) → Bool
+beginWith payload zero run = true
+beginWith payload (suc n) run = beginWith payload n run && equal (take (length (payload n)) (part n run)) (payload n)
+
+module _ (S : Scheme) where
+  -- What opening leaves of the run and of the list, by the one-block definitions.
+  unfoldable pub decipheredRun : (key : List ℕ) (pack first : ℕ) (run : List ℕ) → List ℕ
+  decipheredRun key pack first run = blockwise (λ i C. decipheredBlock S key pack (first + i) C) (blockCount run) run
+
+  unfoldable pub usedLengths : (key : List ℕ) (pack first : ℕ) (run : List ℕ) → List ℕ
+  usedLengths key pack first run = blockwise (λ i C. used (decipheredBlock S key pack (first + i) C) ∷ []) (blockCount run) run
+
+  -- The first n blocks, opened in turn by the one-block call.
+  unfoldable pub inTurn : (key : List ℕ) (pack first n : ℕ) (run : List ℕ) → RunOpened
+  inTurn key pack first zero run = Done
+  inTurn key pack first (suc n) run = next (inTurn key pack first n run) (answerOfBlock S key pack (first + n) (part n run)) (first + n)
+
+  -- 02, "opening at 1, 10, 11, 6, 8": 8 is that of a block.
+  unfoldable pub tests : (key : List ℕ) (first : ℕ) (lengths run : List ℕ) → Tests
+  tests key first lengths run =
+      (not (S .isKey key), KeyLength)
+      ∷ (not (isPack run), PackLength)
+      ∷ (not (eqb (length lengths) (blockCount run)), ListLength)
+      ∷ (ltb 65535 (lastPlace first run), PlaceTooHigh)
+      ∷ []
+
+  abbrev pub answerOf : (key : List ℕ) (pack first : ℕ) (lengths run : List ℕ) → RunOpened
+  answerOf key pack first lengths run = after (looksAt (tests key first lengths run)) (inTurn key pack first (blockCount run) run)
+
+  -- A run opens to n payloads, a pack and a first place, under a key, when opening it with that key, pack and first place is not refused, leaves the
+  -- payloads' lengths in the list and each payload at the front of its block.
+  unfoldable pub opensTo : (key : List ℕ) (n : ℕ) (payload : ℕ → List ℕ) (pack first : ℕ) (C : List ℕ) → Bool
+  opensTo key n payload pack first C =
+      let lent : List ℕ = replicate n 0 in
+      let number = numberOf (answerOf key pack first lent C) in
+      let lengths = leftBy number (usedLengths key pack first C) lent in
+      let left = leftBy number (decipheredRun key pack first C) C in
+      eqb number 0 && equal lengths (lengthsOf payload n) && beginWith payload n left
+
+  -- 02, "The counting rule of demand 3 now also speaks of runs": exactly one run of n blocks opens to the payloads, and it is C; counted, there is 1.
+  abbrev pub OneRun : (key : List ℕ) (n : ℕ) (payload : ℕ → List ℕ) (pack first : ℕ) (C : List ℕ) → Type 0
+  OneRun key n payload pack first C = OneString (512 * n) (opensTo key n payload pack first) C
+
+  -- The one-block call opens block i.
+  abbrev pub BlockOpens : (key : List ℕ) (pack first : ℕ) (run : List ℕ) (i : ℕ) → Type 0
+  BlockOpens key pack first run i = numberOfBlock (answerOfBlock S key pack (first + i) (part i run)) ≡ 0
+
+  -- No payload seals to block i, and each block before it opens.
+  abbrev pub FirstToFail : (key : List ℕ) (pack first : ℕ) (run : List ℕ) (i : ℕ) → Type 0
+  FirstToFail key pack first run i = NoPayload S key pack (first + i) (part i run) × ((j : ℕ) → j < i → BlockOpens key pack first run j)
+
+  -- Number 8, with the place of block i.
+  abbrev pub EightAt : (answer : RunOpened) (first i : ℕ) → Type 0
+  EightAt answer first i = (numberOf answer ≡ 8) × (valuesOf answer ≡ (first + i) ∷ [])
+
+  -- 02, "the answer adds the smallest failing place": where 1, 10, 11 and 6 do not apply, number 8 and a place are answered exactly if no payload seals to
+  -- the block of that place and each block before it opens.
+  abbrev pub Eight : (answer : RunOpened) (key : List ℕ) (pack first : ℕ) (lengths run : List ℕ) → Type 0
+  Eight answer key pack first lengths run =
+      S .isKey key ≡ true → isPack run ≡ true → length lengths ≡ blockCount run → lastPlace first run ≤ 65535 → (i : ℕ) → i < blockCount run
+      → (EightAt answer first i → FirstToFail key pack first run i) × (FirstToFail key pack first run i → EightAt answer first i)
+
+  -- What an answer means when the list and C were lent, and `lengths′` and B are left.
+  pub record Meaning (answer : RunOpened) (key : List ℕ) (pack first : ℕ) (lengths C lengths′ B : List ℕ) : Type 0 where
+    -- Where C was opened, the list has lengths of at most 496 bytes, the payloads that are left seal to C, and no other run opens to them.
+    pub used-limit : numberOf answer ≡ 0 → someOver 496 lengths′ ≡ false
+    pub sealed : numberOf answer ≡ 0 → sealedRun S key pack first lengths′ B ≡ C
+    pub one-run : numberOf answer ≡ 0 → OneRun key (blockCount C) (payloadAt lengths′ B) pack first C
+    pub eight : Eight answer key pack first lengths C
