@@ -25,7 +25,7 @@ use Rattle.layout.specs.Layout.{plainBlock, tweak, used, payloadOf, passes}
 use Rattle.layout.proofs.Check.{plain-of-length, used-plain, take-plain, passes-plain, passes-only}
 use Rattle.pack.specs.Sealing.{seal, WithinLimits, tests as testsOfSealing, answerOf as answerOfSealing}
 use Rattle.pack.specs.Opening.{numberOf, valuesOf, returning, decipheredBlock, tests, answerOf, opensTo, OneBlock, NoPayload, Eight, Meaning}
-use Rattle.pack.specs.Inner.{CipherAt, Openable, Opens}
+use Rattle.pack.specs.Inner.{CipherAt, Opens}
 use Rattle.pack.specs.declared.opening.Opened.{Opened}
 use Rattle.pack.specs.declared.opening.Opened.the-variants.{Done, Refused}
 
@@ -55,7 +55,12 @@ sealable S key payload place block e =
       place-limit = ltb-false 65535 place (t .1 .1 .1 .0);
     }
 
--- Of opening.
+-- Of opening: what is known of a block that is to be deciphered, to which the numbers 1, 7 and 6 do not apply.
+pub record Openable (S : Scheme) (key : List ℕ) (place : ℕ) (C : List ℕ) : Type 0 where
+  pub is-key : S .isKey key ≡ true
+  pub block-length : length C ≡ 512
+  pub place-limit : place ≤ 65535
+
 module _ (S : Scheme) (key : List ℕ) (pack place : ℕ) (C : List ℕ) where
   -- The check alone decides where the other tests are passed.
   pub by-check : Openable S key place C → (t : Bool) → passes pack place (decipheredBlock S key pack place C) ≡ t

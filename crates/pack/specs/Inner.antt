@@ -1,7 +1,7 @@
 -- What the contracts of inner functions cite: nobody has to believe it.
-use Prim.Native.Nat.{ℕ, _≤_}
+use Prim.Native.Nat.{ℕ}
 use mathlib.Core.Path.{_≡_}
-use mathlib.Core.Bool.{true, cond}
+use mathlib.Core.Bool.{cond}
 use mathlib.Core.List.{List}
 use lib.Dec.{eqb}
 use lib.ListN.{length}
@@ -18,12 +18,6 @@ onBlock f B = cond (eqb (length B) 512) (f B) B
 -- Under this key, and the tweak of this pack and place, the scheme is a cipher of 512 bytes.
 abbrev pub CipherAt : (S : Scheme) (key : List ℕ) (pack place : ℕ) → Type 0
 CipherAt S key pack place = Cipher 512 (S .encipher key (tweak pack place)) (S .decipher key (tweak pack place))
-
--- What is known of a block that is to be deciphered: numbers 1, 7 and 6 do not apply.
-pub record Openable (S : Scheme) (key : List ℕ) (place : ℕ) (C : List ℕ) : Type 0 where
-  pub is-key : S .isKey key ≡ true
-  pub block-length : length C ≡ 512
-  pub place-limit : place ≤ 65535
 
 -- What opening promises: C was lent, `answer` is returned and B is left.
 pub record Opens (S : Scheme) (key : List ℕ) (pack place : ℕ) (C : List ℕ) (answer : Opened) (B : List ℕ) : Type 0 where

@@ -1,16 +1,20 @@
 -- The list of lengths, and the last place.
 -- Assumes nothing.
-use Prim.Native.Nat.{ℕ, zero, suc, _+_, _-_, _*_, _≤_, _<_}
+use Prim.Native.Nat.{ℕ, zero, suc, _+_, _-_, _≤_, _<_, min}
 use mathlib.Core.Path.{_≡_, refl, sym, ap, _∙_}
-use mathlib.Core.Bool.{Bool, true, false, cond, false≢true}
-use mathlib.Core.List.{List, [], _∷_, _++_, append-nil, append-assoc}
+use mathlib.Core.Bool.{Bool, true, false, cond, not, false≢true}
+use mathlib.Core.List.{List, [], _∷_, _++_, append-assoc}
 use native.Mathlib.Nat.{one-mul}
 use native.Mathlib.Numerals.{add-one}
 use native.Mathlib.Omega.{arith}
-use borrow.Author.Tests.{ltb-false, ltb-true, le-ltb, lt-ltb}
-use lib.Dec.{ltb}
-use lib.ListN.{length, getD, set, take, drop, drop-of-length-le}
-use lib.Seq.{drop-cons, set-at, take-at, drop-at}
+use borrow.Author.Tests.{ltb-false, le-ltb, lt-ltb, eqb-true, not-false}
+use lib.Dec.{ltb, eqb}
+use lib.ListN.{length, getD, set, take, drop}
+use lib.Seq.{drop-cons, set-at, take-all}
+use Rattle.strings.specs.Inner.{refuseIf}
+use Rattle.strings.specs.declared.refusal.Answer.{Answer}
+use Rattle.strings.specs.declared.refusal.Answer.the-variants.{Done, Refused}
+use Rattle.strings.specs.declared.refusal.Refusal.{Refusal}
 use Rattle.layout.specs.Finding.{part}
 use Rattle.layout.proofs.Parts.{before-or-from}
 use Rattle.runs.specs.Run.{blockwise}
@@ -48,6 +52,22 @@ pub some-over : (limit : ℕ) (s : List ℕ) → ((i : ℕ) → i < length s →
 unfolding someOver
 some-over limit [] each = refl
 some-over limit (u ∷ s) each = rw (le-ltb limit u (each 0 (omega arith))) (some-over limit s (λ i h. each (suc i) (omega (arith, h))))
+
+-- Of a list of another length than n, whose length is told before, no more than n entries have to be looked at.
+late-test : (a : Answer) (t : Bool) (why late : Refusal) (x y : Bool) → (t ≡ false → x ≡ y) → refuseIf (refuseIf a t why) x late ≡ refuseIf (refuseIf a t why) y late
+unfolding refuseIf
+late-test Done true why late x y same = refl
+late-test Done false why late x y same = rw (same refl)
+late-test (Refused first) t why late x y same = refl
+
+pub first-entries : (a : Answer) (why late : Refusal) (limit n : ℕ) (s : List ℕ)
+    → refuseIf (refuseIf a (not (eqb (length s) n)) why) (someOver limit (take (min n (length s) - 0) s)) late
+    ≡ refuseIf (refuseIf a (not (eqb (length s) n)) why) (someOver limit s) late
+first-entries a why late limit n s =
+    late-test a (not (eqb (length s) n)) why late (someOver limit (take (min n (length s) - 0) s)) (someOver limit s)
+    (λ e.
+    let same : length s ≡ n = eqb-true (length s) n (not-false (eqb (length s) n) e) in
+    ap (someOver limit) (take-all (min n (length s) - 0) s (omega (arith, same))))
 
 -- ---- a list that is filled with a number for each block
 

@@ -11,6 +11,7 @@ ghost use Rattle.runs.specs.Sealing.{someOver, payloadAt, sealedRun, tes
 ghost use Rattle.runs.specs.Opening.{OneRun};
 ghost use Rattle.runs.specs.Inner.{CipherUnder, Sealable};
 use primitives::aes::ExpandedKey;
+use strings::places;
 use strings::refusal::Answer;
 use strings::refusal::Refusal;
 
@@ -28,14 +29,15 @@ fn some_over(lengths: &[u16]) -> bool
     false
 }
 
-// What sealing looks at, in 02's order.
+// What sealing looks at, in 02's order. Of a list that is longer than the run no more is read than the run has blocks.
 fn judge(key: &[u8], first: u32, lengths: &[u16], run: &[u8]) -> Answer
     ensures { λ r. ⌜ r ≡ looksAt (tests scheme (now (key .entry)) first (now (lengths .entry)) (now (run .entry))) ⌝ }
 {
     let valid = hch::is_key(key);
     let whole = layout::is_pack(run);
-    let too_long = some_over(lengths);
     let n = run.len() / 512;
+    let read = places::least(n, lengths.len());
+    let too_long = some_over(&lengths[0..read]);
     let too_far = first as usize + n > 65536;
     Answer::Done
         .refuse_if(!valid, Refusal::KeyLength)

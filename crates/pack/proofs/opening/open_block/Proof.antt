@@ -11,9 +11,9 @@ use Rattle.strings.specs.declared.refusal.Refusal.the-variants.{CheckFailed}
 use Rattle.hch.specs.Hch.{hchUnder}
 use Rattle.layout.proofs.Check.{read-passed, read-failed}
 use Rattle.pack.specs.Opening.{decipheredBlock}
-use Rattle.pack.specs.Inner.{onBlock, Openable}
+use Rattle.pack.specs.Inner.{onBlock}
 use Rattle.pack.specs.declared.opening.Opened.the-variants.{Done, Refused}
-use Rattle.pack.proofs.OneBlock.{by-check, given-back, opens}
+use Rattle.pack.proofs.OneBlock.{Openable, by-check, given-back, opens}
 use Rattle.pack.proofs.opening.open_block.Statement.{statement}
 use Rattle.pack.proofs.opening.open_block.Tie as tie
 

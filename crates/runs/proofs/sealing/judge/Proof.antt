@@ -1,14 +1,23 @@
 -- The tests one by one are those of 02's order.
 -- Assumes nothing.
 use Prim.Native.Nat.{_+_, _/_}
+use mathlib.Core.Path.{ap, _∙_}
+use mathlib.Core.Bool.{not}
+use native.Mathlib.Omega.{arith}
 use borrow.Author.Needs.{needs}
 use denote.Ref.{now}
+use lib.Dec.{ltb}
 use lib.ListN.{length}
-use Rattle.strings.specs.Inner.{inTurn}
+use Rattle.strings.specs.Inner.{refuseIf, inTurn}
+use Rattle.strings.specs.declared.refusal.Answer.{Answer}
+use Rattle.strings.specs.declared.refusal.Answer.the-variants.{Done}
+use Rattle.strings.specs.declared.refusal.Refusal.the-variants.{KeyLength, PayloadTooLong, PlaceTooHigh, PackLength, ListLength}
 use Rattle.strings.proofs.Refusals.{in-turn}
 use Rattle.hch.specs.Hch.{hch}
+use Rattle.layout.specs.Finding.{isPack}
+use Rattle.runs.specs.Run.{lastPlace}
 use Rattle.runs.specs.Sealing.{tests}
-use Rattle.runs.proofs.Lists.{last-place}
+use Rattle.runs.proofs.Lists.{first-entries, last-place}
 use Rattle.runs.proofs.sealing.judge.Statement.{statement}
 use Rattle.runs.proofs.sealing.judge.Tie as tie
 
@@ -17,6 +26,18 @@ is-key-requires c κs = search needs
 
 is-pack-requires : tie.Need-is-pack-requires
 is-pack-requires c κs = search needs
+
+least-requires : tie.Need-least-requires
+least-requires c κs = search needs
+
+sub-some-over : tie.Need-sub-some-over
+sub-some-over c = search needs
+
+part-some-over-start : tie.Need-part-some-over-start
+part-some-over-start c = search needs
+
+part-some-over-end : tie.Need-part-some-over-end
+part-some-over-end c = omega (arith, c .least .ensures)
 
 some-over-requires : tie.Need-some-over-requires
 some-over-requires c κs = search needs
@@ -47,9 +68,14 @@ returns c =
     let second = third .before in
     let first = second .before in
     let over = first .before in
-    let whole = over .before in
+    let least = over .before .before in
+    let whole = least .before in
     let asked = whole .before in
     let a = asked .before .before .before .before .args in
+    let key = now (a .key) in
+    let lengths = now (a .lengths) in
+    let run = now (a .run) in
+    let sizes = refuseIf (refuseIf Done (not (hch .isKey key)) KeyLength) (not (isPack run)) PackLength in
     rw (
       c .refuse-if5 .ensures,
       fourth .refuse-if4 .ensures,
@@ -57,11 +83,13 @@ returns c =
       second .refuse-if2 .ensures,
       first .refuse-if .ensures,
       over .some-over .ensures,
+      least .least .ensures,
       whole .is-pack .ensures,
       asked .is-key .ensures,
-      last-place (a .first + length (now (a .run)) / 512),
+      last-place (a .first + length run / 512),
     )
-    (in-turn (tests hch (now (a .key)) (a .first) (now (a .lengths)) (now (a .run))))
+    (ap (λ (x : Answer). refuseIf x (ltb 65535 (lastPlace (a .first) run)) PlaceTooHigh) (first-entries sizes ListLength PayloadTooLong 496 (length run / 512) lengths)
+    ∙ in-turn (tests hch key (a .first) lengths run))
 
 pub judge-spec : {M : Type 1} → statement M
 judge-spec =
@@ -69,6 +97,10 @@ judge-spec =
     (tie.spec
     is-key-requires
     is-pack-requires
+    least-requires
+    sub-some-over
+    part-some-over-start
+    part-some-over-end
     some-over-requires
     add-too-far
     refuse-if-requires
