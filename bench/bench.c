@@ -90,8 +90,9 @@ static void decipher_alone(uint8_t *data, size_t length) {
     done(boards_decipher(key, 16, block_tweak, 16, data, length));
 }
 
-/* A run of 40 blocks from place 258 on, in one call and block by block. What is compared is the run and the list behind it. Each side that seals first
-   puts the payloads where it needs them: in the run, or apart from it. */
+/* A run of 40 blocks from place 258 on, in one call and block by block. What is compared is the run and the list behind it: each side that opens
+   copies its own list there, for bytes may not be written as numbers of 16 bits. Each side that seals first puts the payloads where it needs them: in
+   the run, or apart from it. */
 static uint8_t payload_run[RUN], payloads[RUN], sealed_run[RUN];
 static uint16_t lengths[BLOCKS];
 
@@ -110,19 +111,22 @@ static void seal_one_by_one(uint8_t *data, size_t length) {
     for (uint32_t i = 0; i < BLOCKS; i++) done(boards_seal(key, 16, payloads + 512 * i, lengths[i], 1, 258 + i, data + 512 * i, 512));
 }
 static void open_run(uint8_t *data, size_t length) {
+    static uint16_t list[BLOCKS];
     uint32_t failed;
     (void)length;
     memcpy(data, sealed_run, RUN);
-    done(boards_open_run(key, 16, 1, 258, (uint16_t *)(data + RUN), BLOCKS, data, RUN, &failed));
+    done(boards_open_run(key, 16, 1, 258, list, BLOCKS, data, RUN, &failed));
+    memcpy(data + RUN, list, sizeof list);
 }
 static void open_one_by_one(uint8_t *data, size_t length) {
-    uint16_t *list = (uint16_t *)(data + RUN);
+    static uint16_t list[BLOCKS];
     (void)length;
     memcpy(data, sealed_run, RUN);
     for (uint32_t i = 0; i < BLOCKS; i++) {
         done(boards_open(key, 16, 1, 258 + i, data + 512 * i, 512));
         list[i] = (uint16_t)boards_payload_length(data + 512 * i);
     }
+    memcpy(data + RUN, list, sizeof list);
 }
 
 static double now(void) {

@@ -132,14 +132,14 @@ static void get(uint32_t first) {
     for (; first <= last; first++) fwrite(find(first), 1, boards_payload_length(find(first)), stdout);
 }
 
-/* A file that is there already is not overwritten. */
-static FILE *new_file(const char *name) {
+/* A file that is there already is not overwritten, even if it cannot be read. */
+static void need_new(const char *name) {
     need(fopen(name, "rb") == NULL, name, "there is such a file already");
-    return open_file(name, "wb");
+    need(errno == ENOENT, name, NULL);
 }
 
 /* Opens the pack from a place on by one call, and writes as many boards as there are names. If a block from there on is
-   damaged, or there are not so many boards, no file is written. */
+   damaged, or there are not so many boards, or one of the files is there already, no file is written. */
 static void chapter(uint32_t first, char **names, size_t boards) {
     uint16_t lengths[BOARDS_RUN_BLOCKS_MAX];
     uint32_t failed = first;
@@ -152,8 +152,10 @@ static void chapter(uint32_t first, char **names, size_t boards) {
     need_at(failed, answer == BOARDS_DONE, boards_reason(answer));
     for (size_t i = 0; i < count; i++) ends += lengths[i] < BOARDS_PAYLOAD_MAX;
     need_at(first, ends >= boards, "there are not so many boards from here on");
+    for (size_t i = 0; i < boards; i++) need_new(names[i]);
     for (const uint16_t *length = lengths; boards > 0; boards--, names++) {
-        FILE *board = new_file(*names);
+        need_new(*names); /* again, for a name may be given twice */
+        FILE *board = open_file(*names, "wb");
         do {
             fwrite(run, 1, *length, board);
             run += BOARDS_BLOCK_SIZE;

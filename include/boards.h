@@ -188,8 +188,9 @@ static inline const uint8_t *boards_const_part(const uint8_t *pack, uint32_t pla
 
 /*
  * Seals the payloads of a run of n blocks, 1 to 128, for the places first to first + n - 1 of a pack. The list lengths
- * has n numbers, count of them, from 0 to 496. The payload of block i, counted from 0, is its first lengths[i] bytes;
- * what stands behind them has no effect, is overwritten, and may never have been written.
+ * has n numbers from 0 to 496. count is the count of its numbers and not of its bytes, for an array
+ * sizeof lengths / sizeof lengths[0]. The payload of block i, counted from 0, is its first lengths[i] bytes; what
+ * stands behind them has no effect, is overwritten, and may never have been written.
  *
  * Answers BOARDS_DONE: block i is the one that boards_seal makes of its payload for the place first + i.
  * Answers 1, 10, 11, 5 or 6, the first of them that applies, in this order (BOARDS_WRONG_KEY_SIZE,
@@ -202,8 +203,9 @@ uint32_t boards_seal_run(const uint8_t *key, size_t key_length, uint64_t pack, u
 
 /*
  * Opens a run of n blocks, 1 to 128, in place, with the key, the pack and the places first to first + n - 1 that they
- * were sealed for. The list lengths has room for n numbers, count of them; what it held has no effect. failed points to
- * a uint32_t, and must not be NULL.
+ * were sealed for. The list lengths has room for n numbers; what it held has no effect. count is the count of its
+ * numbers and not of its bytes, for an array sizeof lengths / sizeof lengths[0]. failed points to a uint32_t, and must
+ * not be NULL.
  *
  * Answers BOARDS_DONE: block i is the plain block that boards_open leaves for the place first + i, and lengths[i] is
  * the length of its payload.

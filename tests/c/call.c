@@ -50,7 +50,7 @@ uint32_t answer(const call *c) {
     const slice *k = &c->key, *t = &c->tweak, *p = &c->payload;
     uint8_t *d = (uint8_t *)c->data.bytes; /* the one slice that is written, but by FIND */
     uint16_t *numbers = (uint16_t *)c->list.bytes; /* and OPEN_RUN writes these */
-    size_t length = c->data.length, count = c->list.length / sizeof *numbers;
+    size_t length = c->data.length, count = c->list.length / sizeof *numbers + c->more;
     calls++;
     switch (c->name) {
     case ENCIPHER: return boards.encipher(k->bytes, k->length, t->bytes, t->length, d, length);
@@ -89,7 +89,7 @@ static void describe(const call *c, position where) {
     } else if (c->name == SEAL_RUN || c->name == OPEN_RUN) {
         snprintf(called, sizeof called,
                  "%s(key of %zu, pack %" PRIu64 ", first place %" PRIu32 ", list of %zu, run of %zu), %s", name, k,
-                 c->pack, c->place, c->list.length / 2, d, how);
+                 c->pack, c->place, c->list.length / 2 + c->more, d, how);
     } else {
         snprintf(called, sizeof called, "%s(key of %zu, tweak of %zu, data of %zu), %s", name, k, c->tweak.length, d,
                  how);

@@ -19,6 +19,7 @@ typedef struct {
     slice tweak;               /* of ENCIPHER and DECIPHER alone */
     slice payload;             /* of SEAL; of FIND the part that is found, or nothing, and then it is not compared */
     slice list;                /* of SEAL_RUN and OPEN_RUN: the bytes of its numbers, two each */
+    size_t more;               /* of these two: by so much the count is above the numbers that the list has */
     slice data;                /* the board, the block, the run, or the pack, of which FIND may not even read a byte */
     uint64_t pack;             /* the number, of all that seal or open */
     uint32_t place;            /* of all but ENCIPHER and DECIPHER; of a run the first one */

@@ -12,6 +12,7 @@ import hch
 import pack as packs
 import runs
 from cases_pack import by_hand, with_bit, with_bytes
+from cases_runs import entries
 from harness import ROOT
 from hch import Refused
 from pack import LAST_PLACE, MOST, SIZE, plain_block, seal
@@ -82,11 +83,6 @@ def pair(key, payload, pack, place, block):
                place=place, after=sealed)
     yield case("open", key, data=sealed, pack=pack, place=place,
                after=plain_block(payload, pack, place), used=len(payload))
-
-
-def entries(lengths):
-    """The bytes of a list."""
-    return b"".join(length.to_bytes(2, "big") for length in lengths)
 
 
 def sealing_run(key, pack, place, lengths, run):

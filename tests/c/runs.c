@@ -125,6 +125,21 @@ static void hold_lengths(void) {
     }
 }
 
+/* A count that is above the numbers that are there, as a count of their bytes is. Each of them is good, so that nothing
+   but the run's length tells where to stop: of the list that ends at a page's end, a read past it is a fault. */
+static void hold_more(uint32_t n, size_t more) {
+    TRYING("a list of %" PRIu32 " under a count of %zu", n, n + more);
+    make(n, 9, 8);
+    call seal = sealing_of(SIZE * n, n, 9), open = opening_of(sealed, SIZE * n, n, 9, 0);
+    seal.more = open.more = more;
+    seal.number = open.number = 11;
+    seal.after = before;
+    open.after = sealed;
+    open.list_after = open.list.bytes;
+    hold(&seal);
+    hold(&open);
+}
+
 /* A number over 496, in each place of the list in turn, is refused in sealing, and has no effect in opening. */
 static void hold_numbers(uint32_t n) {
     static const uint16_t over[] = {497, 512, 32768, 65535};
@@ -201,12 +216,16 @@ static void hold_changed(uint32_t n) {
 }
 
 void runs(void) {
-    static const uint32_t counts[] = {1, 2, 3, 40, MOST - 1, MOST};
+    static const uint32_t counts[] = {1, 2, 3, 40, MOST - 1, MOST}, lists[] = {1, 2, 40, MOST};
     static const uint32_t pairs[][3] = {{2, 0, 1}, {3, 0, 2}, {3, 1, 2}, {40, 5, 20}, {40, 38, 39}, {MOST, 0, 127}};
     fill(key, 16, 1);
     fill((uint8_t *)any_numbers, sizeof any_numbers, 2);
     hold_edges();
     hold_lengths();
+    for (size_t i = 0; i < COUNT(lists); i++) {
+        hold_more(lists[i], 1);
+        hold_more(lists[i], lists[i]);
+    }
     for (size_t i = 0; i < COUNT(counts); i++) {
         hold_one_by_one(counts[i], 0);
         hold_one_by_one(counts[i], 1000);

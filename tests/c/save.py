@@ -328,7 +328,7 @@ def longest_chapter(desk):
 
 def no_chapter(desk):
     """Damaged blocks, of which the first is named, too few boards, places
-    that are not there, and files that are there already."""
+    that are not there, and a file that cannot be made."""
     boards = {name: BOARDS[name] for name in ("b1", "b1236", "b497", "b0")}
     desk.adds(boards)
     good = desk.packed()
@@ -348,14 +348,39 @@ def no_chapter(desk):
     desk.put("pack", good[:3 * SIZE])
     desk.loads_not(0, said(TOO_FEW, 0), 2)
     desk.loads(0, [BOARDS["b1"]])
-    desk.put("new1", b"mine")
     desk.put("pack", good)
-    fails(desk.save("chapter", "0", "new0", "new1", "new2"),
-          f"save: new1: {THERE}\n")
-    compare("the file that was there", b"mine",
-            (desk.folder / "new1").read_bytes())
     fails(desk.save("chapter", "0", "none/new"),
           f"save: none/new: {reason(errno.ENOENT)}\n")
+
+
+def chapter_over_files(desk):
+    """The second file is there already, be it one that cannot be read: it is
+    kept, and no other is written. A name that is given twice is new once."""
+    desk.adds({name: BOARDS[name] for name in ("b1", "b1236", "b497")})
+    before, second, after = desk.new_names(3)
+    there = desk.folder / second
+
+    def refused(why):
+        fails(desk.save("chapter", "0", before, second, after),
+              f"save: {second}: {why}\n")
+        if made := [name for name in (before, after)
+                    if (desk.folder / name).exists()]:
+            raise Differs(f"{made} were made")
+
+    there.write_bytes(b"mine")
+    refused(THERE)
+    there.chmod(0o200)  # root may read it all the same
+    refused(THERE if os.access(there, os.R_OK) else reason(errno.EACCES))
+    there.chmod(0o600)
+    compare("the file that was there", b"mine", there.read_bytes())
+    there.unlink()
+    there.symlink_to(second)  # which no one can open
+    refused(reason(errno.ELOOP))
+    there.unlink()
+    fails(desk.save("chapter", "0", before, before),
+          f"save: {before}: {THERE}\n")
+    compare("the name given twice", BOARDS["b1"],
+            (desk.folder / before).read_bytes())
 
 
 # Blocks that are not good.
@@ -739,6 +764,7 @@ RUNS = {
     "chapters": chapters,
     "a chapter of 128 blocks": longest_chapter,
     "no chapter": no_chapter,
+    "a chapter over files that are there": chapter_over_files,
     "a damaged block": damaged,
     "a damaged block at the end": damaged_last,
     "two blocks exchanged": exchanged,

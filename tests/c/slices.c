@@ -155,7 +155,7 @@ static void hold_longer(const call good[FUNCTIONS], const uint8_t *bytes, size_t
 }
 
 /* Lengths whose last 13 to 33 bits are those of a good one. So many bytes are no more than addresses until they are
-   touched; the first number of a list is over 496, so that the rest need not be looked at. */
+   touched. */
 static size_t hold_lengths(const call good[FUNCTIONS]) {
 #if SIZE_MAX > UINT32_MAX
     static const size_t more[] = {1 << 13, 1 << 16, 1 << 24, (size_t)1 << 31, (size_t)1 << 32, (size_t)1 << 33};
@@ -167,7 +167,6 @@ static size_t hold_lengths(const call good[FUNCTIONS]) {
         uint8_t *bytes =
             mmap(NULL, more[i] + PACK, PROT_READ | PROT_WRITE, MAP_PRIVATE | MAP_ANONYMOUS | MAP_NORESERVE, -1, 0);
         if (bytes == MAP_FAILED) break;
-        memset(bytes, 0xff, sizeof(uint16_t));
         hold_longer(good, bytes, more[i]);
         munmap(bytes, more[i] + PACK);
         longest = more[i] + PACK;

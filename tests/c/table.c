@@ -32,7 +32,7 @@ int applies(uint32_t number, const call *c, int damaged) {
     case 7: return c->data.length != 512;
     case 8: return damaged;
     case 10: return c->data.length < 512 || c->data.length > 128 * 512 || c->data.length % 512 != 0;
-    case 11: return c->list.length / 2 != c->data.length / 512;
+    case 11: return c->list.length / 2 + c->more != c->data.length / 512;
     default: return 0;
     }
 }

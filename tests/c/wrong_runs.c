@@ -185,6 +185,18 @@ static uint32_t read_past_list(SEAL_CALL) {
     return right.seal_run(SEAL);
 }
 
+/* As where the numbers are tested before the count is: up to one that is over 496. */
+static uint32_t seal_read_told(SEAL_CALL) {
+    for (size_t i = 0; whole(k, n) && i < count && lengths[i] <= 496; i++) seen = (uint8_t)lengths[i];
+    return right.seal_run(SEAL);
+}
+
+static uint32_t open_read_told(OPEN_CALL) {
+    uint32_t number = right.open_run(OPEN);
+    for (size_t i = 0; number == 11 && i < count; i++) seen = (uint8_t)lengths[i];
+    return number;
+}
+
 static uint32_t write_past_run(OPEN_CALL) {
     if (n > 0) run[n] ^= 1;
     return right.open_run(OPEN);
@@ -340,6 +352,8 @@ const mistake run_mistakes[] = {
     {"seals the blocks before one that it refuses", {.seal_run = seal_before_refusal}, runs, "byte 0 of the run"},
     {"sealing a run, writes the list", {.seal_run = write_list}, runs, "at byte 0 of the list"},
     {"reads past the list", {.seal_run = read_past_list}, runs, "of the list"},
+    {"sealing a run, reads all that the count tells of", {.seal_run = seal_read_told}, runs, "list, which has 2 bytes"},
+    {"opening a run, reads all that the count tells of", {.open_run = open_read_told}, runs, "list, which has 2 bytes"},
     {"writes past the run", {.open_run = write_past_run}, runs, "of the run"},
     {"writes past the list", {.open_run = write_past_list}, runs, "of the list"},
     {"sealing a run, sets errno", {.seal_run = run_set_errno}, slices, "sets errno to 0"},

@@ -1,16 +1,16 @@
 -- Each sentence is cited from the theorems of the crates below; the numbers are by the definition of the tests.
 -- Assumes nothing.
-use Prim.Native.Nat.{ℕ, _*_, _/_, _%_, _≤_, _<_}
+use Prim.Native.Nat.{ℕ, _*_, _/_, _≤_, _<_}
 use mathlib.Core.Path.{_≡_, refl, sym, _∙_, subst}
 use mathlib.Core.Bool.{Bool, true, false}
 use mathlib.Core.List.{List, [], _++_}
 use native.Mathlib.Omega.{arith}
-use borrow.Author.Tests.{le-leb, lt-leb, eq-eqb}
+use borrow.Author.Tests.{le-leb, lt-leb}
 use lib.ListN.{length, take, drop, replicate}
 use denote.Ref.{now}
 use Rattle.strings.specs.Call.{looksAt, leftBy}
 use Rattle.layout.specs.Finding.{blockCount, isPack, part, parts, withPart, tests, found, Holds}
-use Rattle.layout.proofs.Parts.{is-pack}
+use Rattle.layout.proofs.Parts.{is-pack, count-of, pack-of}
 use Rattle.layout.proofs.Written.{in-pack}
 use Rattle.layout.proofs.Theorems as Layout
 use Rattle.claims.specs.Point1.{ofFinding, IsPack, Point1}
@@ -19,28 +19,25 @@ use Rattle.claims.proofs.Demand3.{hch-pack}
 
 module _ (n : ℕ) (pack : List ℕ) (p : IsPack n pack) where
   pub blocks : length pack / 512 ≡ n
-  blocks = omega (arith, p .2)
+  blocks = count-of n pack (p .2)
 
-  pub pack-of : isPack pack ≡ true
-  unfolding isPack
-  pack-of =
-      rw (eq-eqb (length pack % 512) 0 (omega (arith, p .2)), le-leb 1 (length pack / 512) (omega (arith, blocks, p .0)))
-      (le-leb (length pack / 512) 128 (omega (arith, blocks, p .1)))
+  pub is-one : isPack pack ≡ true
+  is-one = pack-of n pack (p .2) (p .0) (p .1)
 
   done : (place : ℕ) → place < n → ofFinding place pack ≡ 0
   unfolding tests looksAt
-  done place h = rw (pack-of, lt-leb (length pack / 512) place (omega (arith, blocks, h)))
+  done place h = rw (is-one, lt-leb (length pack / 512) place (omega (arith, blocks, h)))
 
   past : (place : ℕ) → n ≤ place → ofFinding place pack ≡ 6
   unfolding tests looksAt
-  past place h = rw (pack-of, le-leb (length pack / 512) place (omega (arith, blocks, h)))
+  past place h = rw (is-one, le-leb (length pack / 512) place (omega (arith, blocks, h)))
 
   part-of : (place : ℕ) → place < n → found place pack ≡ take 512 (drop (512 * place) pack)
   unfolding part
   part-of place h = rw (done place h)
 
   parts-of : parts n pack ≡ pack
-  parts-of = rw blocks at (Layout.theorems .pack-is-its-parts pack pack-of)
+  parts-of = rw blocks at (Layout.theorems .pack-is-its-parts pack is-one)
 
 -- Either it is no pack, and then of no n; or it is one of as many blocks as it has.
 pub not-a-pack : (pack : List ℕ) (t : Bool) → isPack pack ≡ t → ((n : ℕ) → IsPack n pack → ⊥) → isPack pack ≡ false
@@ -74,7 +71,7 @@ point-1 = record {
       subst (Holds memory pack) (left-work (done n (now pack) p place h) (withPart place block (now pack)) (now pack)) (written memory block holds same);
   pack-is-its-parts = parts-of;
   same-parts = λ n pack other p q same.
-      Layout.theorems .same-parts pack other (pack-of n pack p) (p .2 ∙ sym (q .2)) (λ place h. same place (omega (arith, h, blocks n pack p)));
+      Layout.theorems .same-parts pack other (is-one n pack p) (p .2 ∙ sym (q .2)) (λ place h. same place (omega (arith, h, blocks n pack p)));
   parts-apart = λ n p q pack r s is in-p in-q. Layout.theorems .parts-apart p q pack r s (done n (now pack) is p in-p) (done n (now pack) is q in-q);
   written-found = λ n place block pack p h. Layout.theorems .written-found place block pack (done n pack p place h);
   others-found = λ n place other block pack p h. Layout.theorems .others-found place other block pack (done n pack p place h);

@@ -1,18 +1,21 @@
 -- Each sentence is cited from the theorems of the crates below; the numbers are by the definitions of the tests.
 -- Assumes nothing.
-use Prim.Native.Nat.{ℕ, zero, suc, _+_, _-_, _*_, _/_, _≤_, _<_}
-use mathlib.Core.Path.{_≡_, refl, sym, ap, _∙_}
-use mathlib.Core.Bool.{Bool, true, false}
+use Prim.Native.Nat.{ℕ, zero, suc, _+_, _-_, _/_, _≤_, _<_}
+use mathlib.Core.Path.{_≡_, refl, sym, _∙_}
+use mathlib.Core.Bool.{false}
 use mathlib.Core.List.{List, [], _∷_}
 use native.Mathlib.Omega.{arith}
 use borrow.Author.Tests.{eq-eqb, ne-eqb, lt-ltb, le-ltb}
-use lib.ListN.{length, getD, take, replicate}
+use lib.Dec.{ltb}
+use lib.ListN.{length, getD, replicate}
 use Rattle.strings.specs.Call.{looksAt}
+use Rattle.strings.specs.One.{tally}
 use Rattle.primitives.specs.Aes.{isKey}
 use Rattle.hch.specs.Hch.{hch}
-use Rattle.layout.specs.Finding.{blockCount, isPack, part}
+use Rattle.layout.specs.Finding.{isPack}
+use Rattle.runs.specs.Run.{times}
 use Rattle.runs.specs.Sealing.{someOver, tests as testsOfSealing}
-use Rattle.runs.specs.Opening.{inTurn, tests as testsOfOpening, numberOf as numberOfOpening}
+use Rattle.runs.specs.Opening.{tests as testsOfOpening}
 use Rattle.runs.specs.Theorems.{Runs, WithinLimits, laidOut}
 use Rattle.runs.proofs.Answers.{all-open}
 use Rattle.runs.proofs.Lists.{some-over, over-some}
@@ -21,7 +24,7 @@ use Rattle.claims.specs.Point1.{IsPack}
 use Rattle.claims.specs.Point2.{ofSealing, ofOpening, ofBlock, Lent, NoneOver, Payloads, Point2}
 use Rattle.claims.proofs.Demand1.{refused-left}
 use Rattle.claims.proofs.Demand3.{key-of-16, hch-tweakable}
-use Rattle.claims.proofs.Point1.{blocks, pack-of, not-a-pack}
+use Rattle.claims.proofs.Point1.{blocks, is-one, not-a-pack}
 
 hch-runs : (key : List ℕ) → length key ≡ 16 → Runs hch key
 hch-runs key k = RunTheorems.theorems .any-cipher hch key (key-of-16 key k) (hch-tweakable key)
@@ -42,11 +45,11 @@ module _ (key : List ℕ) (n first : ℕ) (lengths run : List ℕ) (k : length k
 
   seals-11 : (length lengths ≡ n → ⊥) → ofSealing key first lengths run ≡ 11
   unfolding testsOfSealing looksAt
-  seals-11 other = rw (key-of-16 key k, pack-of n run p, ne-eqb (length lengths) (length run / 512) (list-differs other))
+  seals-11 other = rw (key-of-16 key k, is-one n run p, ne-eqb (length lengths) (length run / 512) (list-differs other))
 
   opens-11 : (pack : ℕ) → (length lengths ≡ n → ⊥) → ofOpening key pack first lengths run ≡ 11
   unfolding testsOfOpening looksAt
-  opens-11 pack other = rw (key-of-16 key k, pack-of n run p, ne-eqb (length lengths) (length run / 512) (list-differs other))
+  opens-11 pack other = rw (key-of-16 key k, is-one n run p, ne-eqb (length lengths) (length run / 512) (list-differs other))
 
 module _ (key : List ℕ) (n first : ℕ) (lengths run : List ℕ) (l : Lent key n lengths run) where
   count : length run / 512 ≡ n
@@ -57,7 +60,7 @@ module _ (key : List ℕ) (n first : ℕ) (lengths run : List ℕ) (l : Lent key
 
   seals-5 : (i : ℕ) → 496 < getD lengths i 0 → ofSealing key first lengths run ≡ 5
   unfolding testsOfSealing looksAt
-  seals-5 i over = rw (key-of-16 key (l .0), pack-of n run (l .1), eq-eqb (length lengths) (length run / 512) same-list, over-some 496 lengths i over)
+  seals-5 i over = rw (key-of-16 key (l .0), is-one n run (l .1), eq-eqb (length lengths) (length run / 512) same-list, over-some 496 lengths i over)
 
   within : NoneOver n lengths → someOver 496 lengths ≡ false
   within none = some-over 496 lengths (λ i h. none i (omega (arith, h, l .2)))
@@ -66,19 +69,19 @@ module _ (key : List ℕ) (n first : ℕ) (lengths run : List ℕ) (l : Lent key
   unfolding testsOfSealing looksAt
   seals-6 none past =
       let far : 65535 < first + length run / 512 - 1 = rw count past in
-      rw (key-of-16 key (l .0), pack-of n run (l .1), eq-eqb (length lengths) (length run / 512) same-list, within none, lt-ltb 65535 (first + length run / 512 - 1) far)
+      rw (key-of-16 key (l .0), is-one n run (l .1), eq-eqb (length lengths) (length run / 512) same-list, within none, lt-ltb 65535 (first + length run / 512 - 1) far)
 
   sealed : NoneOver n lengths → first + n - 1 ≤ 65535 → ofSealing key first lengths run ≡ 0
   unfolding testsOfSealing looksAt
   sealed none last =
       let near : first + length run / 512 - 1 ≤ 65535 = rw count last in
-      rw (key-of-16 key (l .0), pack-of n run (l .1), eq-eqb (length lengths) (length run / 512) same-list, within none, le-ltb 65535 (first + length run / 512 - 1) near)
+      rw (key-of-16 key (l .0), is-one n run (l .1), eq-eqb (length lengths) (length run / 512) same-list, within none, le-ltb 65535 (first + length run / 512 - 1) near)
 
   opens-6 : (pack : ℕ) → 65535 < first + n - 1 → ofOpening key pack first lengths run ≡ 6
   unfolding testsOfOpening looksAt
   opens-6 pack past =
       let far : 65535 < first + length run / 512 - 1 = rw count past in
-      rw (key-of-16 key (l .0), pack-of n run (l .1), eq-eqb (length lengths) (length run / 512) same-list, lt-ltb 65535 (first + length run / 512 - 1) far)
+      rw (key-of-16 key (l .0), is-one n run (l .1), eq-eqb (length lengths) (length run / 512) same-list, lt-ltb 65535 (first + length run / 512 - 1) far)
 
   opened : (pack : ℕ) → first + n - 1 ≤ 65535 → ((i : ℕ) → i < n → ofBlock key pack first run i ≡ 0) → ofOpening key pack first lengths run ≡ 0
   unfolding testsOfOpening looksAt
@@ -86,7 +89,7 @@ module _ (key : List ℕ) (n first : ℕ) (lengths run : List ℕ) (l : Lent key
       let near : first + length run / 512 - 1 ≤ 65535 = rw count last in
       rw (
         key-of-16 key (l .0),
-        pack-of n run (l .1),
+        is-one n run (l .1),
         eq-eqb (length lengths) (length run / 512) same-list,
         le-ltb 65535 (first + length run / 512 - 1) near,
         all-open hch key pack first run (length run / 512) (λ i h. each i (omega (arith, h, count))),
@@ -100,6 +103,20 @@ limits n payload first p = record {
   payload-length = p .3;
   place-limit = omega (arith, p .4, p .0);
 }
+
+-- 2, 0, 1 is an order of three blocks.
+three : (i : ℕ) → times i (2 ∷ 0 ∷ 1 ∷ []) ≡ tally (ltb i 3)
+unfolding times tally
+three zero = refl
+three (suc zero) = refl
+three (suc (suc zero)) = refl
+three (suc (suc (suc i))) =
+    rw (
+      ne-eqb (suc (suc (suc i))) 2 (λ e. omega (arith, e)),
+      ne-eqb (suc (suc (suc i))) 0 (λ e. omega (arith, e)),
+      ne-eqb (suc (suc (suc i))) 1 (λ e. omega (arith, e)),
+      le-ltb (suc (suc (suc i))) 3 (omega arith),
+    )
 
 numbers : let key : List ℕ = replicate 16 0 in
     let run : List ℕ = replicate 1024 0 in
@@ -124,10 +141,13 @@ point-2 = record {
   open-8 = λ key n pack first lengths run l b last i h.
       let c = count key n first lengths run l in
       let near : first + length run / 512 - 1 ≤ 65535 = rw c last in
-      let told = hch-runs key (l .0) .eight pack first lengths run b (key-of-16 key (l .0)) (pack-of n run (l .1)) (same-list key n first lengths run l) near i (rw c h) in
+      let told = hch-runs key (l .0) .eight pack first lengths run b (key-of-16 key (l .0)) (is-one n run (l .1)) (same-list key n first lengths run l) near i (rw c h) in
       (λ e place. told .0 (e, place), λ none before. told .1 (none, before));
   open-done = λ key n pack first lengths run l. opened key n first lengths run l pack;
   unopened-left = λ key pack first lengths run h. (refused-left (ofOpening key pack first lengths run) _ run h, refused-left (ofOpening key pack first lengths run) _ lengths h);
+  no-place = (refl, λ why. refl);
+  place-written = λ lent. (refl, λ why. refl, λ why place. refl);
+  an-order = three;
   sealed-each = λ key first lengths run k. hch-runs key k .sealed-each first lengths run;
   sealed-one-by-one = λ key pack first lengths run k. hch-runs key k .sealed-one-by-one pack first lengths run;
   opened-each = λ key pack first lengths run k. hch-runs key k .opened-each pack first lengths run;

@@ -6,14 +6,16 @@ use lib.ListN.{length, getD, take, replicate}
 use Rattle.strings.specs.Bytes.{Bytes, OfLength, bytes}
 use Rattle.strings.specs.Call.{numberOf, leftBy}
 use Rattle.strings.specs.One.{ExactlyOne, count}
+use Rattle.strings.specs.declared.refusal.Refusal.{Refusal}
 use Rattle.layout.specs.Finding.{blockCount, part, withPart}
 use Rattle.hch.specs.Hch.{hch}
 use Rattle.pack.specs.Sealing.{seal, answerOf as answerOfBlockSealing}
 use Rattle.pack.specs.Opening.{numberOf as numberOfBlock, valuesOf as valuesOfBlock, decipheredBlock, answerOf as answerOfBlockOpening}
 use Rattle.runs.specs.Run.{oneByOne, OrderOf}
 use Rattle.runs.specs.Sealing.{sealedRun, answerOf as answerOfSealing}
-use Rattle.runs.specs.Opening.{numberOf as numberOfOpening, valuesOf, decipheredRun, usedLengths, lengthsOf, answerOf as answerOfOpening, opensTo}
+use Rattle.runs.specs.Opening.{numberOf as numberOfOpening, valuesOf, failedPlace, decipheredRun, usedLengths, lengthsOf, answerOf as answerOfOpening, runLeft, listLeft, opensTo}
 use Rattle.runs.specs.Theorems.{Runs}
+use Rattle.runs.specs.declared.opening.RunOpened.the-variants.{Done, Refused, Failed}
 use Rattle.claims.specs.Point1.{IsPack}
 
 -- The number of each call, and that of the one-block call for block i.
@@ -78,11 +80,16 @@ pub record Point2 : Type 0 where
   -- Else the work is done: each block opens.
   pub open-done : (key : List ℕ) (n pack first : ℕ) (lengths run : List ℕ) → Lent key n lengths run → first + n - 1 ≤ 65535
       → ((i : ℕ) → i < n → ofBlock key pack first run i ≡ 0) → ofOpening key pack first lengths run ≡ 0
+  -- No other answer comes with a place, and the app's number is written with a place alone.
+  pub no-place : (valuesOf Done ≡ []) × ((why : Refusal) → valuesOf (Refused why) ≡ [])
+  pub place-written : (lent : ℕ) → (failedPlace Done lent ≡ lent) × ((why : Refusal) → failedPlace (Refused why) lent ≡ lent)
+      × ((why : Refusal) (place : ℕ) → failedPlace (Failed why place) lent ≡ place)
   -- "If one block will not open, the whole run and the list stay unchanged", as with every other number.
   pub unopened-left : (key : List ℕ) (pack first : ℕ) (lengths run : List ℕ) → 0 < ofOpening key pack first lengths run
-      → (leftBy (ofOpening key pack first lengths run) (decipheredRun hch key pack first run) run ≡ run)
-      × (leftBy (ofOpening key pack first lengths run) (usedLengths hch key pack first run) lengths ≡ lengths)
+      → (runLeft hch key pack first lengths run ≡ run) × (listLeft hch key pack first lengths run ≡ lengths)
   -- ---- "The bytes and lengths after a call that was done are those of the one-block calls made one by one".
+  -- An order of n blocks has each number below n once: 2, 0, 1 is one of three.
+  pub an-order : OrderOf 3 (2 ∷ 0 ∷ 1 ∷ [])
   -- "each payload stands at the front of its block, as long as the list says": where sealing a run is done, sealing each payload into its block is.
   pub sealed-each : (key : List ℕ) (first : ℕ) (lengths run : List ℕ) → length key ≡ 16 → ofSealing key first lengths run ≡ 0 → (i : ℕ) → i < blockCount run
       → numberOf (answerOfBlockSealing hch key (take (getD lengths i 0) (part i run)) (first + i) (part i run)) ≡ 0
@@ -106,8 +113,8 @@ pub record Point2 : Type 0 where
   pub others-open : (key : List ℕ) (pack first : ℕ) (lengths run : List ℕ) → length key ≡ 16 → Bytes run → ofOpening key pack first lengths run ≡ 0
       → (i : ℕ) (block : List ℕ) → i < blockCount run → length block ≡ 512 → Bytes block
       → ofOpening key pack first lengths (withPart i block run) ≡ 0 → (j : ℕ) → j < blockCount run → (j ≡ i → ⊥)
-      → (part j (decipheredRun hch key pack first (withPart i block run)) ≡ part j (decipheredRun hch key pack first run))
-      × (getD (usedLengths hch key pack first (withPart i block run)) j 0 ≡ getD (usedLengths hch key pack first run) j 0)
+      → (part j (runLeft hch key pack first lengths (withPart i block run)) ≡ part j (runLeft hch key pack first lengths run))
+      × (getD (listLeft hch key pack first lengths (withPart i block run)) j 0 ≡ getD (listLeft hch key pack first lengths run) j 0)
   -- ---- "The counting rule of demand 3 now also speaks of runs of a stated number of blocks."
   -- Exactly one run of n blocks opens to n payloads, a pack and a first place: the one that sealing writes, whatever the run held behind the payloads.
   pub one-run : (key : List ℕ) (n : ℕ) (payload : ℕ → List ℕ) (pack first : ℕ) → length key ≡ 16 → Payloads n payload first

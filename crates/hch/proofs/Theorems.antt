@@ -17,7 +17,7 @@ use Rattle.strings.specs.One.{OnePreimage}
 use Rattle.strings.specs.Cipher.{Cipher}
 use Rattle.blocks.specs.BlockCipher.{BlockCipher, BlockPermutation}
 use Rattle.primitives.specs.Aes.{Nr, aes}
-use Rattle.primitives.specs.Inner.{under}
+use Rattle.primitives.specs.Expanded.{under}
 use Rattle.primitives.specs.declared.aes.ExpandedKey.{ExpandedKey}
 use Rattle.strings.proofs.Xor.{xor-zero, xor-comm}
 use Rattle.strings.proofs.Bytes.{number-below}

@@ -10,10 +10,9 @@ use Rattle.strings.specs.One.{OnePreimage}
 use Rattle.strings.specs.Call.{Tests, looksAt}
 use Rattle.strings.specs.declared.refusal.Answer.{Answer}
 use Rattle.strings.specs.declared.refusal.Refusal.the-variants.{KeyLength, TweakLength, TooShort, TooLong}
-use Rattle.primitives.specs.declared.aes.ExpandedKey.{ExpandedKey}
-use Rattle.hch.specs.Hch.{enciphered, deciphered, hch, hchUnder}
+use Rattle.hch.specs.Hch.{enciphered, deciphered, hch}
 
--- 01, "HCH looks at 1, 2, 3, 4 in this order": at 2, 3 and 4 behind the key.
+-- What is looked at behind the key.
 abbrev pub testsBehindKey : (tweak message : List ℕ) → Tests
 testsBehindKey tweak message =
     (not (eqb (length tweak) 16), TweakLength)
@@ -21,6 +20,7 @@ testsBehindKey tweak message =
     ∷ (ltb 4096 (length message), TooLong)
     ∷ []
 
+-- 01, "HCH looks at 1, 2, 3, 4 in this order".
 unfoldable pub tests : (key tweak message : List ℕ) → Tests
 tests key tweak message = (not (hch .isKey key), KeyLength) ∷ testsBehindKey tweak message
 
@@ -30,10 +30,6 @@ answerOf key tweak message = looksAt (tests key tweak message)
 -- Under a key that was expanded before, the tests behind it decide.
 abbrev pub answerBehindKey : (tweak message : List ℕ) → Answer
 answerBehindKey tweak message = looksAt (testsBehindKey tweak message)
-
--- Where the call was done, HCH under this expanded key and tweak is a cipher of n bytes.
-abbrev pub IsCipherUnder : (number : ℕ) (expanded : ExpandedKey) (tweak : List ℕ) (n : ℕ) → Type 0
-IsCipherUnder number expanded tweak n = number ≡ 0 → Cipher n (hchUnder expanded .encipher [] tweak) (hchUnder expanded .decipher [] tweak)
 
 -- Where the call was done, enciphering and deciphering under this key and tweak are a cipher of n bytes and its inverse.
 abbrev pub IsCipher : (number : ℕ) (key tweak : List ℕ) (n : ℕ) → Type 0

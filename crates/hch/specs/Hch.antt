@@ -2,7 +2,6 @@
 -- A block is a number below 2 ^ 128 and a message P is a string of bytes, 16 or more. The paper's n is 128. Where the message is one block,
 -- nothing stands behind it: there is no sum, steps 2, 5 and 6 do nothing, and what is left is the paper's section II-A.
 use Prim.Native.Nat.{ℕ, _*_, _^_}
-use mathlib.Core.Bool.{true}
 use mathlib.Core.List.{List, _++_}
 use lib.ListN.{length, take, drop}
 use Rattle.strings.specs.Xor.{_⊕_}
@@ -13,8 +12,6 @@ use Rattle.strings.specs.Cipher.{Permutation, Scheme}
 use Rattle.blocks.specs.Counter.{masked}
 use Rattle.blocks.specs.BlockCipher.{BlockCipher}
 use Rattle.primitives.specs.Aes.{isKey, aes}
-use Rattle.primitives.specs.Inner.{under}
-use Rattle.primitives.specs.declared.aes.ExpandedKey.{ExpandedKey}
 
 -- bin(l) of a message of n bytes: l is its length in bits, and a byte is 8 of them.
 abbrev pub lengthBlock : ℕ → ℕ
@@ -112,7 +109,3 @@ deciphered key = decipheredBy (aes key)
 
 abbrev pub hch : Scheme
 hch = record { isKey = isKey; encipher = enciphered; decipher = deciphered }
-
--- HCH under a key that was expanded before. The key is in the scheme: every string is taken for one, and none is looked at.
-abbrev pub hchUnder : ExpandedKey → Scheme
-hchUnder expanded = record { isKey = λ key. true; encipher = λ key. encipheredBy (under expanded); decipher = λ key. decipheredBy (under expanded) }

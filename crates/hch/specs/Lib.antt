@@ -1,4 +1,5 @@
 pub mod Hch
 pub mod Call
+pub mod Expanded
 pub mod Inner
 pub mod Theorems

@@ -7,7 +7,7 @@ use mathlib.Core.Logic.{⊎-elim}
 use mathlib.Core.List.{List, [], _++_}
 use native.Mathlib.Nat.{eq-zero-or-pos, eq-or-lt-of-le}
 use native.Mathlib.Omega.{arith}
-use borrow.Author.Tests.{leb-true, leb-false, eqb-true, lt-leb}
+use borrow.Author.Tests.{leb-true, leb-false, eqb-true, eq-eqb, le-leb, lt-leb}
 use lib.Dec.{leb, eqb}
 use lib.ListN.{length, getD, take, drop, length-append, length-drop, List·getD-append}
 use lib.Seq.{length-take-le, getD-take, getD-drop, getD-append-add, take-add, take-length, ext-getD}
@@ -34,8 +34,18 @@ is-pack pack h =
     let inner = both (eqb (length pack % 512) 0) (leb 1 (blockCount pack)) (outer .0) in
     (eqb-true _ 0 (inner .0), leb-true 1 _ (inner .1), leb-true _ 128 (outer .1))
 
-whole-blocks : (pack : List ℕ) → isPack pack ≡ true → 512 * blockCount pack ≡ length pack
+pub whole-blocks : (pack : List ℕ) → isPack pack ≡ true → 512 * blockCount pack ≡ length pack
 whole-blocks pack h = omega (arith, is-pack pack h .0)
+
+-- And n whole blocks are a pack of n blocks.
+pub count-of : (n : ℕ) (pack : List ℕ) → length pack ≡ 512 * n → blockCount pack ≡ n
+count-of n pack h = omega (arith, h)
+
+pub pack-of : (n : ℕ) (pack : List ℕ) → length pack ≡ 512 * n → 1 ≤ n → n ≤ 128 → isPack pack ≡ true
+unfolding isPack
+pack-of n pack h low high =
+    let whole : length pack % 512 ≡ 0 = omega (arith, h) in
+    rw (eq-eqb _ 0 whole, le-leb 1 (blockCount pack) (rw (count-of n pack h) low), le-leb (blockCount pack) 128 (rw (count-of n pack h) high))
 
 -- A place that is found stands within the pack, and is below 128.
 pub found-within : (place : ℕ) (pack : List ℕ) → answerOf place pack ≡ Done → 512 * place + 512 ≤ length pack

@@ -11,8 +11,8 @@ use Rattle.strings.specs.declared.refusal.Answer.{Answer}
 use Rattle.strings.specs.declared.refusal.Answer.the-variants.{Done}
 use Rattle.strings.proofs.Refusals.{all-passed}
 use Rattle.primitives.specs.declared.aes.ExpandedKey.{ExpandedKey}
-use Rattle.hch.specs.Hch.{hchUnder}
-use Rattle.hch.specs.Call.{testsBehindKey, answerBehindKey, IsCipherUnder}
+use Rattle.hch.specs.Expanded.{hchUnder, IsCipherUnder}
+use Rattle.hch.specs.Call.{answerBehindKey}
 use Rattle.layout.specs.Layout.{tweak}
 use Rattle.layout.proofs.Check.{tweak-of-length}
 use Rattle.pack.specs.Inner.{CipherAt}

@@ -2,7 +2,7 @@
 ghost use mathlib.Core.Path.{_≡_};
 ghost use mathlib.Core.List.{[]};
 ghost use lib.ListN.{length};
-ghost use Rattle.hch.specs.Hch.{hchUnder};
+ghost use Rattle.hch.specs.Expanded.{hchUnder};
 ghost use Rattle.layout.specs.Layout.{tweak as tweakOf};
 ghost use Rattle.pack.specs.Inner.{onBlock, CipherAt};
 use primitives::aes::ExpandedKey;
@@ -19,7 +19,7 @@ pub fn encipher(expanded: ExpandedKey, pack: u64, place: u32, block: &mut [u8])
 }
 
 // Deciphers the sealed block in place, or nothing where it has another length.
-pub fn decipher(expanded: ExpandedKey, pack: u64, place: u32, sealed: &mut [u8])
+pub(crate) fn decipher(expanded: ExpandedKey, pack: u64, place: u32, sealed: &mut [u8])
     ensures { λ _. ⌜ now (sealed .exit) ≡ onBlock (hchUnder expanded .decipher [] (tweakOf pack place)) (now (sealed .entry)) ⌝ }
     ensures { λ _. ⌜ (length (now (sealed .entry)) ≡ 512 → CipherAt (hchUnder expanded) [] pack place) ⌝ }
 {

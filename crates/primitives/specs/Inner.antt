@@ -1,22 +1,11 @@
 -- What the contracts of inner functions cite: nobody has to believe it.
 use Prim.Native.Nat.{ℕ, _+_, _%_, _<_}
 use mathlib.Core.Path.{_≡_}
-use mathlib.Core.Bool.{cond}
 use mathlib.Core.List.{List, [], _∷_}
-use lib.ListN.{getD, replicate}
+use lib.ListN.{getD}
 use Rattle.strings.specs.Xor.{_⊕_}
 use Rattle.strings.specs.Bytes.{bytes}
-use Rattle.blocks.specs.BlockCipher.{BlockCipher}
-use Rattle.primitives.specs.Aes.{_•_, at, state, byteOf, sBox, invSBox, rotWord, keyExpansion, Nr, isKey, encipher, decipher}
-use Rattle.primitives.specs.declared.aes.ExpandedKey.{ExpandedKey}
-
--- The block cipher that an expanded key of the code stands for.
-abbrev pub under : ExpandedKey → BlockCipher
-under expanded = record { E = encipher (Nr 4) (expanded .words); D = decipher (Nr 4) (expanded .words) }
-
--- The expanded key that the code makes of a string: of what is no key, zero words.
-abbrev pub expandedKey : List ℕ → ExpandedKey
-expandedKey key = record { words = cond (isKey key) (keyExpansion 4 key) (replicate 44 0) }
+use Rattle.primitives.specs.Aes.{_•_, at, state, byteOf, sBox, invSBox, rotWord}
 
 -- The list t is the table of f on the bytes.
 pub record Table (f : ℕ → ℕ) (t : List ℕ) : Type 0 where

@@ -1,3 +1,4 @@
 pub mod Aes
+pub mod Expanded
 pub mod Inner
 pub mod Theorems

@@ -3,7 +3,7 @@
 use Prim.Native.Nat.{ℕ, zero, suc, _+_, _<_}
 use mathlib.Core.Path.{_≡_, refl, sym, ap, _∙_}
 use mathlib.Core.Logic.{_⊎_, inl, inr, ⊎-elim}
-use mathlib.Core.List.{List, []}
+use mathlib.Core.List.{List}
 use native.Mathlib.Nat.{eq-or-lt-of-le}
 use native.Mathlib.Omega.{arith}
 use lib.ListN.{getD}
@@ -17,6 +17,7 @@ use Rattle.pack.specs.Opening.{numberOf as numberOfBlock, answerOf as answerOfB
 use Rattle.pack.specs.declared.opening.Opened.{Opened}
 use Rattle.pack.specs.declared.opening.Opened.the-variants.{Done as BlockOpened, Refused as BlockRefused}
 use Rattle.runs.specs.Opening.{numberOf, valuesOf, next, inTurn, BlockOpens}
+use Rattle.runs.proofs.Blocks.{below-more}
 use Rattle.runs.specs.declared.opening.RunOpened.{RunOpened}
 use Rattle.runs.specs.declared.opening.RunOpened.the-variants.{Done, Failed}
 
@@ -42,8 +43,7 @@ module _ (S : Scheme) (key : List ℕ) (pack first : ℕ) (run : List ℕ) where
   unfolding inTurn
   one-more n all (BlockOpened u) e =
       inl (record {
-        each = λ i h. ⊎-elim (λ (s : suc i ≡ suc n). let same : i ≡ n = omega (arith, s) in rw (same, e)) (λ (l : suc i < suc n). all .each i (omega (arith, l)))
-            (eq-or-lt-of-le h);
+        each = λ i h. below-more (BlockOpens S key pack first run) n (all .each) (ap numberOfBlock e) i (omega (arith, h));
         answered = rw (all .answered, e);
       })
   one-more n all (BlockRefused why) e =

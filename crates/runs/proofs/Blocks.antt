@@ -1,16 +1,16 @@
 -- The blocks of a run: what is made of them one behind the other, and what a loop over them leaves.
 -- Assumes nothing.
-use Prim.Native.Nat.{ℕ, zero, suc, _+_, _-_, _*_, _/_, _≤_, _<_}
+use Prim.Native.Nat.{ℕ, zero, suc, _+_, _-_, _*_, _≤_, _<_}
 use mathlib.Core.Path.{_≡_, refl, sym, ap, _∙_}
 use mathlib.Core.Logic.{⊎-elim}
 use mathlib.Core.List.{List, [], _∷_, _++_, append-assoc, append-nil}
 use native.Mathlib.Nat.{eq-or-lt-of-le, mul-suc, one-mul}
 use native.Mathlib.Numerals.{add-one}
 use native.Mathlib.Omega.{arith}
-use lib.ListN.{length, getD, set, take, drop, length-append, length-drop, drop-of-length-le, take-append-drop}
+use lib.ListN.{length, getD, take, drop, length-append, length-drop, drop-of-length-le, take-append-drop}
 use lib.Seq.{take-add, take-all, take-at, drop-at, drop-drop, getD-drop, getD-take}
-use Rattle.layout.specs.Finding.{blockCount, part}
-use Rattle.layout.proofs.Parts.{part-length, before-or-from}
+use Rattle.layout.specs.Finding.{part}
+use Rattle.layout.proofs.Parts.{before-or-from}
 use Rattle.runs.specs.Run.{blockwise}
 use Rattle.runs.specs.Inner.{walked}
 
@@ -133,6 +133,6 @@ pub part-same : {R t : List ℕ} (a k : ℕ) → t ≡ take k (drop a R) → tak
 part-same {R} {t} a k e = rw (e, take-append-drop k (drop a R)) (take-append-drop a R)
 
 -- What holds of the numbers below i and of i holds of those below i + 1.
-pub one-more : (P : ℕ → Type 0) (i : ℕ) → ((j : ℕ) → j < i → P j) → P i → (j : ℕ) → j < i + 1 → P j
-one-more P i before here j h =
+pub below-more : (P : ℕ → Type 0) (i : ℕ) → ((j : ℕ) → j < i → P j) → P i → (j : ℕ) → j < i + 1 → P j
+below-more P i before here j h =
     before-or-from j i (λ less. before j less) (λ from. let same : i ≡ j = omega (arith, h, from) in rw same at here)

@@ -1,11 +1,11 @@
 -- What the tests of the two calls tell of what was lent.
 -- Assumes nothing.
-use Prim.Native.Nat.{ℕ, _+_, _*_, _%_, _≤_}
-use mathlib.Core.Path.{_≡_, refl, sym, ap, _∙_}
+use Prim.Native.Nat.{ℕ, _≤_}
+use mathlib.Core.Path.{_≡_, refl, sym}
 use mathlib.Core.Bool.{true, false}
 use mathlib.Core.List.{List}
 use native.Mathlib.Omega.{arith}
-use borrow.Author.Tests.{eqb-true, ltb-false, eq-eqb, le-ltb, le-leb}
+use borrow.Author.Tests.{eqb-true, ltb-false, eq-eqb, le-ltb}
 use lib.ListN.{length}
 use Rattle.strings.specs.Call.{numberOf as numberOfTests, looksAt}
 use Rattle.strings.specs.Cipher.{Scheme}
@@ -13,7 +13,7 @@ use Rattle.strings.specs.declared.refusal.Answer.{Answer}
 use Rattle.strings.specs.declared.refusal.Answer.the-variants.{Done as NoTestHolds, Refused as FirstIs}
 use Rattle.strings.proofs.Refusals.{refusal-range, none-holds, all-passed, not-false}
 use Rattle.layout.specs.Finding.{blockCount, isPack}
-use Rattle.layout.proofs.Parts.{is-pack}
+use Rattle.layout.proofs.Parts.{is-pack, whole-blocks}
 use Rattle.runs.specs.Run.{lastPlace}
 use Rattle.runs.specs.Sealing.{someOver, tests as testsOfSealing, answerOf as answerOfSealing}
 use Rattle.runs.specs.Opening.{numberOf, after, tests}
@@ -31,20 +31,6 @@ done-of (Failed why place) e = absurd (omega (arith, refusal-range why .0, e))
 pub both-done : (a : Answer) (r : RunOpened) → numberOf (after a r) ≡ 0 → (numberOfTests a ≡ 0) × (numberOf r ≡ 0)
 both-done NoTestHolds r e = (refl, e)
 both-done (FirstIs why) r e = absurd (omega (arith, refusal-range why .0, e))
-
--- ---- strings of n blocks
-
-pub count-of : (n : ℕ) (run : List ℕ) → length run ≡ 512 * n → blockCount run ≡ n
-count-of n run h = omega (arith, h)
-
-pub pack-of : (n : ℕ) (run : List ℕ) → length run ≡ 512 * n → 1 ≤ n → n ≤ 128 → isPack run ≡ true
-unfolding isPack
-pack-of n run h low high =
-    let whole : length run % 512 ≡ 0 = omega (arith, h) in
-    rw (eq-eqb _ 0 whole, le-leb 1 (blockCount run) (rw (count-of n run h) low), le-leb (blockCount run) 128 (rw (count-of n run h) high))
-
-pub whole-run : (run : List ℕ) → isPack run ≡ true → length run ≡ 512 * blockCount run
-whole-run run h = omega (arith, is-pack run h .0)
 
 -- ---- the tests
 
@@ -86,4 +72,4 @@ module _ (S : Scheme) (key : List ℕ) (first : ℕ) (lengths run : List ℕ) wh
       (all-passed _ (refl, (refl, (refl, (refl, tt)))))
 
   pub in-range : Admitted → InRange first run
-  in-range a = record { whole = whole-run run (a .is-run); places = omega (arith, a .last-place, is-pack run (a .is-run) .1) }
+  in-range a = record { whole = sym (whole-blocks run (a .is-run)); places = omega (arith, a .last-place, is-pack run (a .is-run) .1) }

@@ -1,13 +1,13 @@
 -- What an answer of opening a run means: where it was opened, what is left seals to it; where it was not, which block will not open.
 -- Assumes nothing.
-use Prim.Native.Nat.{ℕ, _+_, _*_, _≤_, _<_}
+use Prim.Native.Nat.{ℕ, _+_, _*_, _<_}
 use mathlib.Core.Path.{_≡_, refl, sym, ap, _∙_}
-use mathlib.Core.Bool.{true, false}
+use mathlib.Core.Bool.{false}
 use mathlib.Core.Logic.{⊎-elim}
 use mathlib.Core.List.{List, [], _∷_}
 use native.Mathlib.Nat.{one-mul}
 use native.Mathlib.Omega.{arith}
-use lib.ListN.{length, getD, take}
+use lib.ListN.{getD, take}
 use lib.Seq.{take-all}
 use Rattle.strings.specs.Bytes.{Bytes}
 use Rattle.strings.specs.Call.{refusalNumber, numberOf as numberOfTests, looksAt, leftBy}
@@ -17,20 +17,20 @@ use Rattle.strings.specs.declared.refusal.Refusal.{Refusal}
 use Rattle.strings.proofs.Refusals.{refusal-range}
 use Rattle.layout.specs.Layout.{used, payloadOf}
 use Rattle.layout.specs.Finding.{blockCount, part}
-use Rattle.layout.proofs.Parts.{is-pack, part-length}
+use Rattle.layout.proofs.Parts.{is-pack, whole-blocks}
 use Rattle.pack.specs.Sealing.{seal}
 use Rattle.pack.specs.Opening.{numberOf as numberOfBlock, decipheredBlock, NoPayload}
 use Rattle.pack.specs.Opening.{answerOf as answerOfBlock}
 use Rattle.pack.proofs.OneBlock.{FromPayload, opened-from, eight as block-eight}
 use Rattle.runs.specs.Run.{blockwise}
 use Rattle.runs.specs.Sealing.{someOver, payloadAt, sealedRun}
-use Rattle.runs.specs.Opening.{numberOf, valuesOf, after, decipheredRun, usedLengths, inTurn, tests, answerOf, OneRun, BlockOpens, EightAt, FirstToFail, Eight, Meaning}
+use Rattle.runs.specs.Opening.{numberOf, valuesOf, decipheredRun, usedLengths, inTurn, tests, answerOf, OneRun, BlockOpens, EightAt, FirstToFail, Eight, Meaning}
 use Rattle.runs.specs.Theorems.{WithinLimits}
 use Rattle.runs.specs.declared.opening.RunOpened.{RunOpened}
-use Rattle.runs.specs.declared.opening.RunOpened.the-variants.{Done, Refused, Failed}
+use Rattle.runs.specs.declared.opening.RunOpened.the-variants.{Refused}
 use Rattle.runs.proofs.Answers.{FailsAt, AllOpen, in-turn, each-opens, same-block}
 use Rattle.runs.proofs.Blocks.{length-blockwise, blockwise-same, blockwise-self}
-use Rattle.runs.proofs.Limits.{done-of, both-done, whole-run, Admitted, openable, no-test-holds, in-range}
+use Rattle.runs.proofs.Limits.{both-done, Admitted, openable, no-test-holds, in-range}
 use Rattle.runs.proofs.Lists.{some-over}
 use Rattle.runs.proofs.OneRun.{one-run}
 use Rattle.runs.proofs.Sizes.{at, part-of-length, deciphered-part, used-part, deciphered-length}
@@ -52,7 +52,7 @@ module _ (S : Scheme) (key : List ℕ) (cipher : TweakableCipher 16 512 (S .enci
     by-blocks : answerOf S key pack first lengths run ≡ inTurn S key pack first (blockCount run) run
     by-blocks = rw (no-test-holds S key first lengths run a)
 
-    eight-told : EightAt S (answerOf S key pack first lengths run) first i → FirstToFail S key pack first run i
+    eight-told : EightAt (answerOf S key pack first lengths run) first i → FirstToFail S key pack first run i
     eight-told e =
         let n = blockCount run in
         ⊎-elim (λ (all : AllOpen S key pack first run n). absurd (omega (arith, sym (ap numberOf (by-blocks ∙ all .answered)) ∙ e .0)))
@@ -64,7 +64,7 @@ module _ (S : Scheme) (key : List ℕ) (cipher : TweakableCipher 16 512 (S .enci
         let refused : numberOfBlock (answerOfBlock S key pack (first + i) (part i run)) ≡ 8 = rw same at (ap numberOfBlock (f .refused) ∙ number) in
         (block-number refused, rw same at (f .before))) (in-turn S key pack first run n)
 
-    eight-answered : FirstToFail S key pack first run i → EightAt S (answerOf S key pack first lengths run) first i
+    eight-answered : FirstToFail S key pack first run i → EightAt (answerOf S key pack first lengths run) first i
     eight-answered e =
         let n = blockCount run in
         let eight = no-payload-eight (e .0) in
@@ -117,7 +117,7 @@ module _ (S : Scheme) (key : List ℕ) (cipher : TweakableCipher 16 512 (S .enci
         let B = decipheredRun S key pack first run in
         blockwise-same (λ i C. seal S key (payloadAt lengths′ B i) pack (first + i)) (λ i C. C) (blockCount run) B run
         (λ i h. rw (left-payload i h) (from i h .seals))
-        ∙ blockwise-self (blockCount run) run ∙ take-all (512 * blockCount run) run (omega (arith, whole-run run (known .is-run)))
+        ∙ blockwise-self (blockCount run) run ∙ take-all (512 * blockCount run) run (omega (arith, sym (whole-blocks run (known .is-run))))
 
     sealed : sealedRun S key pack first (usedLengths S key pack first run) (decipheredRun S key pack first run) ≡ run
     unfolding sealedRun

@@ -3,8 +3,7 @@
 use Prim.Native.Nat.{ℕ, zero, suc, _+_, _*_, _≤_, _<_}
 use mathlib.Core.Path.{_≡_, refl, sym, ap, _∙_}
 use mathlib.Core.Bool.{Bool, true, _&&_}
-use mathlib.Core.List.{List, [], _∷_, _++_}
-use native.Mathlib.Numerals.{add-one}
+use mathlib.Core.List.{List, [], _∷_}
 use native.Mathlib.Omega.{arith}
 use borrow.Author.Tests.{eqb-true}
 use lib.Dec.{eqb}
@@ -19,18 +18,18 @@ use Rattle.strings.proofs.Equal.{both, equal-refl, equal-true}
 use Rattle.strings.proofs.One.{two-parts, no-part, same-test}
 use Rattle.layout.specs.Layout.{used}
 use Rattle.layout.specs.Finding.{blockCount, part}
-use Rattle.layout.proofs.Parts.{is-pack, part-length, getD-part}
+use Rattle.layout.proofs.Parts.{is-pack, part-length, getD-part, count-of, pack-of}
 use Rattle.pack.specs.Sealing.{seal, WithinLimits as BlockWithinLimits}
 use Rattle.pack.specs.Opening.{decipheredBlock, opensTo as blockOpensTo}
 use Rattle.pack.proofs.OneBlock.{OpenedTo, opened-to, opens-to, one-block}
-use Rattle.runs.specs.Run.{blockwise, lastPlace}
+use Rattle.runs.specs.Run.{blockwise}
 use Rattle.runs.specs.Sealing.{payloadAt, sealedRun, answerOf as answerOfSealing}
-use Rattle.runs.specs.Opening.{numberOf, decipheredRun, usedLengths, inTurn, tests, answerOf, lengthsOf, beginWith, opensTo, OneRun, BlockOpens}
+use Rattle.runs.specs.Opening.{numberOf, decipheredRun, usedLengths, inTurn, tests, answerOf, lengthsOf, beginWith, opensTo, OneRun}
 use Rattle.runs.specs.Theorems.{WithinLimits}
 use Rattle.runs.specs.declared.opening.RunOpened.the-variants.{Done}
 use Rattle.runs.proofs.Answers.{all-open, each-opens}
-use Rattle.runs.proofs.Blocks.{one-more, getD-blockwise, blockwise-same}
-use Rattle.runs.proofs.Limits.{done-of, both-done, count-of, pack-of, Admitted, sealable, openable, no-test-holds, in-range}
+use Rattle.runs.proofs.Blocks.{below-more, getD-blockwise, blockwise-same}
+use Rattle.runs.proofs.Limits.{both-done, Admitted, sealable, no-test-holds, in-range}
 use Rattle.runs.proofs.Lists.{none-over}
 use Rattle.runs.proofs.Sizes.{at, part-of-length, deciphered-part, used-part}
 
@@ -70,7 +69,7 @@ unfolding beginWith
 begun payload zero run e i h = absurd (omega (arith, h))
 begun payload (suc n) run e i h =
     let t = both (beginWith payload n run) (equal (take (length (payload n)) (part n run)) (payload n)) e in
-    one-more (λ j. take (length (payload j)) (part j run) ≡ payload j) n (begun payload n run (t .0)) (equal-true _ (payload n) (t .1)) i (omega (arith, h))
+    below-more (λ j. take (length (payload j)) (part j run) ≡ payload j) n (begun payload n run (t .0)) (equal-true _ (payload n) (t .1)) i (omega (arith, h))
 
 module _ (S : Scheme) (key : List ℕ) (cipher : TweakableCipher 16 512 (S .encipher key) (S .decipher key)) (k : S .isKey key ≡ true)
     (pack first : ℕ) (payload : ℕ → List ℕ) where
@@ -99,7 +98,7 @@ module _ (S : Scheme) (key : List ℕ) (cipher : TweakableCipher 16 512 (S .enci
   each-passes (suc n) u h e i l =
       let t = both (opensEach n (take (512 * n) u)) (block-test n (drop (512 * n) u)) e in
       let long : length (take (512 * n) u) ≡ 512 * n = rw length-take (omega (arith, h)) in
-      one-more (λ j. block-test j (part j u) ≡ true) n
+      below-more (λ j. block-test j (part j u) ≡ true) n
       (λ j m. rw (part-take n j u m (omega (arith, h))) at (each-passes n (take (512 * n) u) long (t .0) j m)) (rw (part-last n u h) at (t .1)) i (omega (arith, l))
 
   all-pass : (n : ℕ) (u : List ℕ) → length u ≡ 512 * n → ((i : ℕ) → i < n → block-test i (part i u) ≡ true) → opensEach n u ≡ true

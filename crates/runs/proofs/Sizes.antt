@@ -1,11 +1,11 @@
 -- What a cipher of 512 bytes makes of the blocks of a run: blocks again, and what was deciphered is given back.
 -- Assumes nothing.
 use Prim.Native.Nat.{ℕ, _+_, _-_, _*_, _/_, _%_, _^_, _≤_, _<_}
-use mathlib.Core.Path.{_≡_, sym, ap, _∙_}
+use mathlib.Core.Path.{_≡_, ap, _∙_}
 use mathlib.Core.List.{List, [], _∷_, _++_}
 use native.Mathlib.Omega.{arith}
 use lib.ListN.{length, getD, take, drop, take-append-drop}
-use lib.Seq.{take-all, length-take-le}
+use lib.Seq.{length-take-le}
 use Rattle.strings.specs.Bytes.{Bytes, OfLength, number}
 use Rattle.strings.specs.Inner.{padded}
 use Rattle.strings.specs.Cipher.{TweakableCipher, Scheme}

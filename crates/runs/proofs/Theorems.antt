@@ -15,16 +15,16 @@ use Rattle.strings.specs.declared.refusal.Answer.the-variants.{Done as NoTestHo
 use Rattle.strings.proofs.Bytes.{below-append, below-take, below-drop}
 use Rattle.strings.proofs.Refusals.{all-passed}
 use Rattle.layout.specs.Finding.{blockCount, part, withPart}
-use Rattle.layout.proofs.Parts.{part-length, with-length, part-with-other}
+use Rattle.layout.proofs.Parts.{part-length, with-length, part-with-other, count-of, whole-blocks}
 use Rattle.pack.specs.Sealing.{seal, tests as testsOfBlockSealing, answerOf as answerOfBlockSealing}
 use Rattle.pack.specs.Opening.{numberOf as numberOfBlock, valuesOf as valuesOfBlock, decipheredBlock, answerOf as answerOfBlock}
 use Rattle.pack.proofs.OneBlock.{opened-answer}
-use Rattle.runs.specs.Run.{blockwise, oneByOne, OrderOf}
+use Rattle.runs.specs.Run.{oneByOne, OrderOf}
 use Rattle.runs.specs.Sealing.{payloadAt, sealedRun, answerOf as answerOfSealing}
 use Rattle.runs.specs.Opening.{numberOf, decipheredRun, usedLengths, answerOf, lengthsOf, OneRun}
 use Rattle.runs.specs.Theorems.{sealingCall, openingCall, WithinLimits, Holds, laidOut, Runs, Theorems}
 use Rattle.runs.proofs.Blocks.{length-blockwise, part-blockwise, blockwise-same}
-use Rattle.runs.proofs.Limits.{count-of, sealable, in-range, whole-run}
+use Rattle.runs.proofs.Limits.{sealable, in-range}
 use Rattle.runs.proofs.Lists.{none-over}
 use Rattle.runs.proofs.Meaning.{known, opens, eight}
 use Rattle.runs.proofs.OneRun.{getD-lengths, one-run as one-of-payloads}
@@ -58,7 +58,7 @@ module _ (S : Scheme) (key : List ℕ) (k : S .isKey key ≡ true) (cipher : Twe
         let s = sealable S key first lengths run e in
         let work : (i : ℕ) → i < blockCount run → sealingCall S key pack first lengths i (part i run) ≡ seal S key (payloadAt lengths run i) pack (first + i) =
         λ i h. rw (seals-block i h) in
-        in-any-order (sealingCall S key pack first lengths) (blockCount run) run order (whole-run run (s .0 .is-run)) each
+        in-any-order (sealingCall S key pack first lengths) (blockCount run) run order (sym (whole-blocks run (s .0 .is-run))) each
         (λ i h. rw (work i h) (sealed-length S key cipher pack first run b i (omega (arith, h)) (getD lengths i 0) (none-over 496 lengths (s .1) i)))
         ∙ blockwise-same (sealingCall S key pack first lengths) (λ i B. seal S key (take (getD lengths i 0) B) pack (first + i)) (blockCount run) run run work
 
@@ -71,7 +71,7 @@ module _ (S : Scheme) (key : List ℕ) (k : S .isKey key ≡ true) (cipher : Twe
     opened-one-by-one order each =
         let work : (i : ℕ) → i < blockCount run → openingCall S key pack first i (part i run) ≡ decipheredBlock S key pack (first + i) (part i run) =
         λ i h. rw (opens-block i h) in
-        in-any-order (openingCall S key pack first) (blockCount run) run order (whole-run run (known S key cipher pack first run b lengths e .is-run)) each
+        in-any-order (openingCall S key pack first) (blockCount run) run order (sym (whole-blocks run (known S key cipher pack first run b lengths e .is-run))) each
         (λ i h. rw (work i h) (deciphered-of-length S key cipher pack first run b i (omega (arith, h)) .0))
         ∙ blockwise-same (openingCall S key pack first) (λ i C. decipheredBlock S key pack (first + i) C) (blockCount run) run run work
 
@@ -114,7 +114,7 @@ any-cipher S key k cipher = record {
       let opened = opens-block S key k cipher pack first lengths run b e i h in
       (opened, ap valuesOfBlock (opened-answer S key pack (first + i) (part i run) opened) ∙ ap (λ (u : ℕ). u ∷ []) (sym (used-part S key cipher pack first run b i h)));
   opened-one-by-one = λ pack first lengths run b e. opened-one-by-one S key k cipher pack first lengths run b e;
-  others-open = λ pack first lengths run b e i block h long hb e′. others-open S key k cipher pack first run b i block h long hb;
+  others-open = λ pack first lengths run b e i block h long hb e′ j l apart. rw (e, e′) (others-open S key k cipher pack first run b i block h long hb j l apart);
   one-run = one-run S key k cipher;
   eight = λ pack first lengths run b. eight S key cipher pack first run b lengths;
 }

@@ -7,7 +7,7 @@ use lib.ListN.{length, drop}
 use Rattle.strings.specs.Call.{leftBy}
 use Rattle.strings.specs.Cipher.{TweakableCipher, Scheme}
 use Rattle.primitives.specs.declared.aes.ExpandedKey.{ExpandedKey}
-use Rattle.hch.specs.Hch.{hchUnder}
+use Rattle.hch.specs.Expanded.{hchUnder}
 use Rattle.layout.specs.Finding.{blockCount}
 use Rattle.pack.specs.Opening.{decipheredBlock}
 use Rattle.runs.specs.Run.{blockwise}

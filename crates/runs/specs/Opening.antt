@@ -33,6 +33,10 @@ valuesOf Done = []
 valuesOf (Refused why) = []
 valuesOf (Failed why place) = place ∷ []
 
+-- Number 8, with the place of block i.
+abbrev pub EightAt : (answer : RunOpened) (first i : ℕ) → Type 0
+EightAt answer first i = (numberOf answer ≡ 8) × (valuesOf answer ≡ (first + i) ∷ [])
+
 -- What the app's out parameter holds after a call: the place of the block that would not open, or what it held before.
 abbrev pub failedPlace : RunOpened → (lent : ℕ) → ℕ
 failedPlace Done lent = lent
@@ -62,7 +66,7 @@ beginWith payload zero run = true
 beginWith payload (suc n) run = beginWith payload n run && equal (take (length (payload n)) (part n run)) (payload n)
 
 module _ (S : Scheme) where
-  -- What opening leaves of the run and of the list, by the one-block definitions.
+  -- The run opened and the lengths of its payloads, by the one-block definitions.
   unfoldable pub decipheredRun : (key : List ℕ) (pack first : ℕ) (run : List ℕ) → List ℕ
   decipheredRun key pack first run = blockwise (λ i C. decipheredBlock S key pack (first + i) C) (blockCount run) run
 
@@ -86,15 +90,20 @@ module _ (S : Scheme) where
   abbrev pub answerOf : (key : List ℕ) (pack first : ℕ) (lengths run : List ℕ) → RunOpened
   answerOf key pack first lengths run = after (looksAt (tests key first lengths run)) (inTurn key pack first (blockCount run) run)
 
+  -- What the call leaves of the run and of the list.
+  abbrev pub runLeft : (key : List ℕ) (pack first : ℕ) (lengths run : List ℕ) → List ℕ
+  runLeft key pack first lengths run = leftBy (numberOf (answerOf key pack first lengths run)) (decipheredRun key pack first run) run
+
+  abbrev pub listLeft : (key : List ℕ) (pack first : ℕ) (lengths run : List ℕ) → List ℕ
+  listLeft key pack first lengths run = leftBy (numberOf (answerOf key pack first lengths run)) (usedLengths key pack first run) lengths
+
   -- A run opens to n payloads, a pack and a first place, under a key, when opening it with that key, pack and first place is not refused, leaves the
   -- payloads' lengths in the list and each payload at the front of its block.
   unfoldable pub opensTo : (key : List ℕ) (n : ℕ) (payload : ℕ → List ℕ) (pack first : ℕ) (C : List ℕ) → Bool
   opensTo key n payload pack first C =
       let lent : List ℕ = replicate n 0 in
-      let number = numberOf (answerOf key pack first lent C) in
-      let lengths = leftBy number (usedLengths key pack first C) lent in
-      let left = leftBy number (decipheredRun key pack first C) C in
-      eqb number 0 && equal lengths (lengthsOf payload n) && beginWith payload n left
+      eqb (numberOf (answerOf key pack first lent C)) 0 && equal (listLeft key pack first lent C) (lengthsOf payload n)
+      && beginWith payload n (runLeft key pack first lent C)
 
   -- 02, "The counting rule of demand 3 now also speaks of runs": exactly one run of n blocks opens to the payloads, and it is C; counted, there is 1.
   abbrev pub OneRun : (key : List ℕ) (n : ℕ) (payload : ℕ → List ℕ) (pack first : ℕ) (C : List ℕ) → Type 0
@@ -107,10 +116,6 @@ module _ (S : Scheme) where
   -- No payload seals to block i, and each block before it opens.
   abbrev pub FirstToFail : (key : List ℕ) (pack first : ℕ) (run : List ℕ) (i : ℕ) → Type 0
   FirstToFail key pack first run i = NoPayload S key pack (first + i) (part i run) × ((j : ℕ) → j < i → BlockOpens key pack first run j)
-
-  -- Number 8, with the place of block i.
-  abbrev pub EightAt : (answer : RunOpened) (first i : ℕ) → Type 0
-  EightAt answer first i = (numberOf answer ≡ 8) × (valuesOf answer ≡ (first + i) ∷ [])
 
   -- 02, "the answer adds the smallest failing place": where 1, 10, 11 and 6 do not apply, number 8 and a place are answered exactly if no payload seals to
   -- the block of that place and each block before it opens.

@@ -12,7 +12,7 @@ use Rattle.pack.specs.Sealing.{seal, answerOf as answerOfBlockSealing}
 use Rattle.pack.specs.Opening.{numberOf as numberOfBlock, valuesOf as valuesOfBlock, decipheredBlock, answerOf as answerOfBlock}
 use Rattle.runs.specs.Run.{blockwise, oneByOne, OrderOf}
 use Rattle.runs.specs.Sealing.{payloadAt, sealedRun, answerOf as answerOfSealing}
-use Rattle.runs.specs.Opening.{numberOf, decipheredRun, usedLengths, answerOf, lengthsOf, OneRun, Eight}
+use Rattle.runs.specs.Opening.{numberOf, decipheredRun, usedLengths, answerOf, runLeft, listLeft, lengthsOf, OneRun, Eight}
 
 -- What the one-block calls for block i leave of it.
 abbrev pub sealingCall : (S : Scheme) (key : List ℕ) (pack first : ℕ) (lengths : List ℕ) (i : ℕ) (B : List ℕ) → List ℕ
@@ -58,8 +58,8 @@ pub record Runs (S : Scheme) (key : List ℕ) : Type 0 where
       → (i : ℕ) (block : List ℕ) → i < blockCount run → length block ≡ 512 → Bytes block
       → let changed = withPart i block run in
       numberOf (answerOf S key pack first lengths changed) ≡ 0 → (j : ℕ) → j < blockCount run → (j ≡ i → ⊥)
-      → (part j (decipheredRun S key pack first changed) ≡ part j (decipheredRun S key pack first run))
-      × (getD (usedLengths S key pack first changed) j 0 ≡ getD (usedLengths S key pack first run) j 0)
+      → (part j (runLeft S key pack first lengths changed) ≡ part j (runLeft S key pack first lengths run))
+      × (getD (listLeft S key pack first lengths changed) j 0 ≡ getD (listLeft S key pack first lengths run) j 0)
   -- Exactly one run of n blocks opens to n payloads within the limits: the one that sealing writes, whatever the run held behind the payloads. The count
   -- over all runs of n blocks is 1.
   pub one-run : (n : ℕ) (payload : ℕ → List ℕ) (pack first : ℕ) → WithinLimits n payload first → (run : List ℕ) → Holds n payload run

@@ -4,7 +4,7 @@ use borrow.Author.Needs.{needs}
 use denote.Ref.{now}
 use Rattle.blocks.specs.BlockField.{timesX, powerSum}
 use Rattle.blocks.specs.Inner.{value}
-use Rattle.primitives.specs.Inner.{under}
+use Rattle.primitives.specs.Expanded.{under}
 use Rattle.hch.proofs.LentBytes.{enciphering}
 use Rattle.hch.proofs.encipher_message.Statement.{statement}
 use Rattle.hch.proofs.encipher_message.Tie as tie

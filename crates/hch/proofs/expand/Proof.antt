@@ -1,11 +1,9 @@
 -- The expansion is AES's. HCH under a key that was expanded is HCH under the key, and it is a tweakable cipher under any expanded key.
 -- Assumes nothing.
-use mathlib.Core.Path.{_≡_, ap}
 use borrow.Author.Needs.{needs}
 use denote.Ref.{now}
 use Rattle.primitives.specs.Aes.{aes}
-use Rattle.primitives.specs.Inner.{under}
-use Rattle.hch.specs.Hch.{encipheredBy, decipheredBy, enciphered, deciphered}
+use Rattle.hch.specs.Hch.{enciphered, deciphered}
 use Rattle.hch.proofs.Theorems.{under-cipher}
 use Rattle.hch.proofs.expand.Statement.{statement}
 use Rattle.hch.proofs.expand.Tie as tie

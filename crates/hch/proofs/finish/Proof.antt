@@ -4,7 +4,7 @@ use borrow.Author.Needs.{needs}
 use denote.Ref.{now}
 use Rattle.blocks.specs.BlockField.{powerSum}
 use Rattle.blocks.specs.Inner.{value}
-use Rattle.primitives.specs.Inner.{under}
+use Rattle.primitives.specs.Expanded.{under}
 use Rattle.hch.specs.Inner.{ctrBytes}
 use Rattle.hch.proofs.LentBytes.{finished}
 use Rattle.hch.proofs.finish.Statement.{statement}

@@ -1,9 +1,8 @@
 -- Both lengths are tested; then the check is written behind the payload.
 -- Assumes nothing.
-use native.Mathlib.Omega.{arith}
 use borrow.Author.Needs.{needs}
 use denote.Ref.{now}
-use Rattle.layout.proofs.Check.{both-fit, too-long, no-block, completed}
+use Rattle.layout.proofs.Check.{too-long, no-block, completed}
 use Rattle.layout.proofs.complete.Statement.{statement}
 use Rattle.layout.proofs.complete.Tie as tie
 

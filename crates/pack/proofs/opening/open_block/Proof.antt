@@ -8,7 +8,7 @@ use borrow.Author.Tests.{eq-eqb}
 use denote.Ref.{now}
 use lib.ListN.{length}
 use Rattle.strings.specs.declared.refusal.Refusal.the-variants.{CheckFailed}
-use Rattle.hch.specs.Hch.{hchUnder}
+use Rattle.hch.specs.Expanded.{hchUnder}
 use Rattle.layout.proofs.Check.{read-passed, read-failed}
 use Rattle.pack.specs.Opening.{decipheredBlock}
 use Rattle.pack.specs.Inner.{onBlock}

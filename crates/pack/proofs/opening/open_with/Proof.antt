@@ -4,7 +4,7 @@ use mathlib.Core.Path.{refl, sym, _∙_}
 use mathlib.Core.List.{[]}
 use borrow.Author.Needs.{needs}
 use denote.Ref.{now}
-use Rattle.hch.specs.Hch.{hchUnder}
+use Rattle.hch.specs.Expanded.{hchUnder}
 use Rattle.pack.proofs.OneBlock.{openable, refused-behind}
 use Rattle.pack.proofs.opening.open_with.Statement.{statement}
 use Rattle.pack.proofs.opening.open_with.Tie as tie

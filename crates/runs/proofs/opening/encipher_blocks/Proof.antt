@@ -1,6 +1,6 @@
 -- What is enciphered and what is left to do make the run: one block goes from the one to the other at each turn.
 -- Assumes nothing.
-use Prim.Native.Nat.{ℕ, _+_, _-_, _*_, _/_, _≤_, _<_}
+use Prim.Native.Nat.{ℕ, _+_, _-_, _*_, _≤_, _<_}
 use mathlib.Core.Path.{_≡_, refl, sym, ap, _∙_}
 use mathlib.Core.List.{List, []}
 use native.Mathlib.Omega.{arith}
@@ -9,7 +9,7 @@ use denote.Ref.{now}
 use lib.ListN.{length}
 use borrow.Author.Tests.{eq-eqb}
 use Rattle.primitives.specs.declared.aes.ExpandedKey.{ExpandedKey}
-use Rattle.hch.specs.Hch.{hchUnder}
+use Rattle.hch.specs.Expanded.{hchUnder}
 use Rattle.layout.specs.Layout.{tweak}
 use Rattle.layout.specs.Finding.{blockCount, part}
 use Rattle.layout.proofs.Parts.{part-length}

@@ -1,7 +1,7 @@
 -- All are opened, or those before the first that will not open are enciphered again.
 -- Assumes nothing.
-use Prim.Native.Nat.{ℕ, _+_, _-_, _*_, _≤_, _<_}
-use mathlib.Core.Path.{_≡_, refl, sym, ap, _∙_}
+use Prim.Native.Nat.{ℕ, _+_, _-_, _*_}
+use mathlib.Core.Path.{_≡_, sym, ap, _∙_}
 use mathlib.Core.Logic.{inl, inr, ⊎-elim}
 use mathlib.Core.List.{List, [], _∷_}
 use native.Mathlib.Omega.{arith}
@@ -14,7 +14,7 @@ use Rattle.strings.specs.Call.{leftBy}
 use Rattle.strings.specs.declared.refusal.Refusal.{Refusal}
 use Rattle.strings.proofs.Refusals.{refusal-leaves}
 use Rattle.primitives.specs.declared.aes.ExpandedKey.{ExpandedKey}
-use Rattle.hch.specs.Hch.{hchUnder}
+use Rattle.hch.specs.Expanded.{hchUnder}
 use Rattle.layout.specs.Finding.{blockCount}
 use Rattle.pack.specs.Opening.{decipheredBlock}
 use Rattle.runs.specs.Opening.{numberOf, decipheredRun}

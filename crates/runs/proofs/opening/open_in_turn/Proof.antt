@@ -1,6 +1,6 @@
 -- What is opened and what is left to do make the run: one block goes from the one to the other at each turn. A block that is refused comes back as it was lent.
 -- Assumes nothing.
-use Prim.Native.Nat.{ℕ, suc, _+_, _-_, _*_, _/_, _≤_, _<_}
+use Prim.Native.Nat.{ℕ, _+_, _-_, _*_, _≤_, _<_}
 use mathlib.Core.Path.{_≡_, refl, sym, ap, _∙_}
 use mathlib.Core.List.{List, []}
 use native.Mathlib.Omega.{arith}
@@ -9,12 +9,12 @@ use denote.Ref.{now}
 use lib.ListN.{length, take, drop}
 use Rattle.strings.specs.Bytes.{Bytes}
 use Rattle.primitives.specs.declared.aes.ExpandedKey.{ExpandedKey}
-use Rattle.hch.specs.Hch.{hchUnder}
+use Rattle.hch.specs.Expanded.{hchUnder}
 use Rattle.layout.specs.Finding.{blockCount, part}
-use Rattle.pack.specs.Opening.{numberOf as numberOfBlock, decipheredBlock}
+use Rattle.pack.specs.Opening.{numberOf as numberOfBlock, decipheredBlock, answerOf as answerOfBlock}
 use Rattle.runs.specs.Opening.{BlockOpens}
 use Rattle.runs.specs.Inner.{CipherUnder, walked}
-use Rattle.runs.proofs.Blocks.{walked-none, walked-block, turn, part-same, one-more}
+use Rattle.runs.proofs.Blocks.{walked-none, walked-block, turn, part-same, below-more}
 use Rattle.runs.proofs.Answers.{all-open, first-refused, left-back}
 use Rattle.runs.proofs.Sizes.{deciphered-of-length}
 use Rattle.runs.proofs.opening.open_in_turn.Statement.{statement}
@@ -86,7 +86,7 @@ returns c =
     let f = one (a .expanded) (a .pack) (a .first) in
     let below : l .i < blockCount run = omega (arith, l .inv .2, at-turn .loop-test .taken) in
     let lent = next-block (a .expanded) (a .pack) (a .first) run (start .pre .0) (λ k. known .slice-known .given k .fits) (l .i) below (l .inv .0) in
-    let shut = rw lent at (sym (done .open-with .ensures .0) ∙ refused) in
+    let shut = ap (answerOfBlock S [] (a .pack) (a .first + l .i)) (sym lent) ∙ sym (done .open-with .ensures .0) ∙ refused in
     let back : done .open-with .last .1 .1 .1 .0 ≡ take (512 * l .i + 512 - 512 * l .i) (drop (512 * l .i) (l .run)) =
     done .open-with .ensures .1 .0 ∙ left-back refused _ _ in
     record {
@@ -119,11 +119,12 @@ loop-again c =
     let below : l .i < blockCount run = omega (arith, l .inv .2, at-turn .loop-test .taken) in
     let lent = next-block (a .expanded) (a .pack) (a .first) run (start .pre .0) bytes (l .i) below (l .inv .0) in
     let opened = ap numberOfBlock (c .enum-told .given .1) in
-    let opens : BlockOpens S [] (a .pack) (a .first) run (l .i) = rw lent at (sym (ap numberOfBlock (done .open-with .ensures .0)) ∙ opened) in
+    let opens : BlockOpens S [] (a .pack) (a .first) run (l .i) =
+    ap (λ (C : List ℕ). numberOfBlock (answerOfBlock S [] (a .pack) (a .first + l .i) C)) (sym lent) ∙ sym (ap numberOfBlock (done .open-with .ensures .0)) ∙ opened in
     let whole = c .before .before .before .run .given .1 in (
       turn f run (l .i) (deciphered-sized (a .expanded) (a .pack) (a .first) run (start .pre .0) bytes (l .i) below) (f (l .i)) (l .inv .0)
           (rw opened at (done .open-with .ensures .1 .0)) refl,
-      one-more (BlockOpens S [] (a .pack) (a .first) run) (l .i) (l .inv .1) opens,
+      below-more (BlockOpens S [] (a .pack) (a .first) run) (l .i) (l .inv .1) opens,
       whole ∙ l .inv .2,
       omega (arith, whole, at-turn .loop-test .taken),
     )

@@ -1,7 +1,7 @@
 -- A refusal before a block is opened is that of the tests; else the blocks decide, and the list is written where all of them opened.
 -- Assumes nothing.
 use Prim.Native.Nat.{ℕ, zero, suc, _*_}
-use mathlib.Core.Path.{_≡_, refl, sym, ap, _∙_}
+use mathlib.Core.Path.{_≡_, sym, ap, _∙_}
 use mathlib.Core.List.{List, [], _∷_}
 use mathlib.Core.Logic.{inl, inr, ⊎-elim}
 use native.Mathlib.Omega.{arith}
@@ -14,18 +14,19 @@ use Rattle.strings.specs.Bytes.{Bytes}
 use Rattle.strings.specs.Call.{numberOf as numberOfTests, leftBy}
 use Rattle.strings.specs.Cipher.{TweakableCipher, Scheme, Same}
 use Rattle.strings.proofs.Refusals.{refusal-leaves}
-use Rattle.hch.specs.Hch.{hch, hchUnder}
+use Rattle.hch.specs.Hch.{hch}
+use Rattle.hch.specs.Expanded.{hchUnder}
 use Rattle.layout.specs.Layout.{used}
+use Rattle.layout.proofs.Parts.{whole-blocks}
 use Rattle.layout.specs.Finding.{blockCount}
 use Rattle.pack.proofs.Same.{same-cipher}
 use Rattle.runs.specs.Run.{blockwise}
-use Rattle.runs.specs.Opening.{numberOf, decipheredRun, usedLengths, inTurn, answerOf, Meaning}
+use Rattle.runs.specs.Opening.{numberOf, decipheredRun, usedLengths, inTurn, answerOf}
 use Rattle.runs.specs.Inner.{OpensBlocks}
 use Rattle.runs.specs.declared.opening.RunOpened.{RunOpened}
-use Rattle.runs.specs.declared.opening.RunOpened.the-variants.{Done, Failed}
 use Rattle.runs.proofs.opening.RunOpened.{the-type}
 use Rattle.runs.proofs.Answers.{AllOpen, FailsAt, in-turn}
-use Rattle.runs.proofs.Limits.{Admitted, openable, no-test-holds, in-range, whole-run}
+use Rattle.runs.proofs.Limits.{Admitted, openable, no-test-holds, in-range}
 use Rattle.runs.proofs.Meaning.{means, refused-answer, refused-meaning}
 use Rattle.runs.proofs.Same.{same-in-turn, same-deciphered-run}
 use Rattle.runs.proofs.Sizes.{deciphered-length, lengths-read}
@@ -120,7 +121,7 @@ put-lengths-requires c κs =
     let known = openable hch (now (a .key)) (a .first) (now (a .lengths)) run (ap numberOfTests (sym (judged .judge .ensures) ∙ told .enum-told .given .1)) in
     let bytes : Bytes run = λ i. judged .before .before .before .slice-known2 .given i .fits in
     left-length (hchUnder (start .expand .result .expanded)) [] (start .expand .ensures .1 .1 .1 512 (omega arith)) (a .pack) (a .first) run bytes
-    (whole-run run (known .is-run)) (work .open-blocks .ensures) ∙ ap (λ (n : ℕ). 512 * n) (sym (known .list-length))
+    (sym (whole-blocks run (known .is-run))) (work .open-blocks .ensures) ∙ ap (λ (n : ℕ). 512 * n) (sym (known .list-length))
 
 same-length-3 : tie.Need-same-length-3
 same-length-3 c = search needs

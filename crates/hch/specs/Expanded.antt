@@ -1,0 +1,17 @@
+-- HCH under a key that was expanded before.
+use Prim.Native.Nat.{ℕ}
+use mathlib.Core.Path.{_≡_}
+use mathlib.Core.Bool.{true}
+use mathlib.Core.List.{List, []}
+use Rattle.strings.specs.Cipher.{Cipher, Scheme}
+use Rattle.primitives.specs.Expanded.{under}
+use Rattle.primitives.specs.declared.aes.ExpandedKey.{ExpandedKey}
+use Rattle.hch.specs.Hch.{encipheredBy, decipheredBy}
+
+-- With any words. The key is in the scheme: every string is taken for one, and none is looked at.
+abbrev pub hchUnder : ExpandedKey → Scheme
+hchUnder expanded = record { isKey = λ key. true; encipher = λ key. encipheredBy (under expanded); decipher = λ key. decipheredBy (under expanded) }
+
+-- Where the call was done, HCH under this expanded key and tweak is a cipher of n bytes.
+abbrev pub IsCipherUnder : (number : ℕ) (expanded : ExpandedKey) (tweak : List ℕ) (n : ℕ) → Type 0
+IsCipherUnder number expanded tweak n = number ≡ 0 → Cipher n (hchUnder expanded .encipher [] tweak) (hchUnder expanded .decipher [] tweak)
