@@ -19,14 +19,8 @@ use Rattle.runs.specs.Sealing.{someOver, tests as testsOfSealing, answer
 use Rattle.runs.specs.Opening.{numberOf, after, tests}
 use Rattle.runs.specs.Inner.{InRange}
 use Rattle.runs.specs.declared.opening.RunOpened.{RunOpened}
-use Rattle.runs.specs.declared.opening.RunOpened.the-variants.{Done, Refused, Failed}
 
 -- ---- the number
-
-pub done-of : (r : RunOpened) → numberOf r ≡ 0 → r ≡ Done
-done-of Done e = refl
-done-of (Refused why) e = absurd (omega (arith, refusal-range why .0, e))
-done-of (Failed why place) e = absurd (omega (arith, refusal-range why .0, e))
 
 pub both-done : (a : Answer) (r : RunOpened) → numberOf (after a r) ≡ 0 → (numberOfTests a ≡ 0) × (numberOf r ≡ 0)
 both-done NoTestHolds r e = (refl, e)
