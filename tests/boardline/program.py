@@ -23,8 +23,8 @@ import boardline
 from boardline import LONGEST
 from harness import ROOT, SECONDS, Differs, Ended, ended, started, wait
 from shared import (
-    EVERY_KIND, GOOD, answers, check_end, ended_endless, expected, mixed,
-    promptly, read, receive)
+    EVERY_KIND, GOOD, LONG_KEYS, answers, check_end, ended_endless, expected,
+    key_lines, mixed, promptly, read, receive)
 
 # 3 megabytes without a line feed, and number 9 for its length alone.
 LONG_LINE = b"E   " + b"0123456789abcdef" * 200000
@@ -56,11 +56,13 @@ def gate_cases(command, status=None):
 
 
 def each_byte():
-    """Each byte in each kind of place of a good line."""
-    line = GOOD[2]
-    for at in (0, 1, 2, 20, 34, 35, 67, 100, len(line) - 1):
-        for byte in range(256):
-            yield line[:at] + bytes([byte]) + line[at + 1:]
+    """Each byte in each kind of place of a good line, with a key of 16 bytes
+    and with one of 32."""
+    for line, places in ((GOOD[2], (0, 1, 2, 20, 34, 35, 67, 100)),
+                         (LONG_KEYS[2], (2, 33, 34, 65, 66, 67, 99, 100))):
+        for at in (*places, len(line) - 1):
+            for byte in range(256):
+                yield line[:at] + bytes([byte]) + line[at + 1:]
 
 
 def large_input():
@@ -97,7 +99,7 @@ def in_parts(command, parts):
 
 def bytewise(command):
     data = b"\n".join([boardline.WHOLE_INPUT, GOOD[0], b"E\0", GOOD[1] + b"g",
-                       b"", GOOD[5]])
+                       b"", LONG_KEYS[3], GOOD[5]])
     in_parts(command, [data[at:at + 1] for at in range(len(data))])
     return f"{len(data)} bytes"
 
@@ -331,8 +333,10 @@ def runs(program):
         "zero bytes": bytes(100000) + b"\n" + bytes(100) + b"\n" + last,
         "each byte in each place": b"\n".join(each_byte()) + b"\n" + last,
         "lines of every kind": b"\n".join(EVERY_KIND),
+        "keys of 0 to 64 bytes": b"\n".join(key_lines(range(65))),
         "lines of 8,290 to 8,310 characters": b"\n".join(
-            GOOD[0] + b"0" * (length - len(GOOD[0])) + b"\n" + GOOD[1]
+            good.ljust(length, b"0") + b"\n" + GOOD[1]
+            for good in (GOOD[0], LONG_KEYS[0])
             for length in range(8290, 8311)),
         "several megabytes": large_input(),
         "a long last line without its line feed": LONG_LINE,

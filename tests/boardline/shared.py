@@ -12,6 +12,7 @@ import subprocess
 import boardline
 from boardline import LONGEST
 from harness import Differs, Ended, compare, ended, shown, started, wait
+from lines import WRONG_KEYS
 
 PROMPT = 10  # seconds: for an answer, and for an end without end of input
 
@@ -98,12 +99,12 @@ def promptly(command, status=None):
 
 # Lines to make inputs of. Few of them are good, since the reference is slow.
 
-def good_lines(rng, lengths):
+def good_lines(rng, lengths, key_length=16):
     """A line of each length of data both ways, the second on the answer of
     the first."""
     for length in lengths:
         start = b" %s %s " % tuple(
-            rng.randbytes(16).hex().encode("ascii") for _ in range(2))
+            rng.randbytes(n).hex().encode("ascii") for n in (key_length, 16))
         line = b"E" + start + rng.randbytes(length).hex().encode("ascii")
         yield line
         yield b"D" + start + answer(line)
@@ -112,9 +113,25 @@ def good_lines(rng, lengths):
 GOOD = list(good_lines(random.Random("boardline: good lines"),
                        (16, 17, 40, 512, 2000, 4095, 4096)))
 
+# The same under keys of 32 bytes.
+LONG_KEYS = list(good_lines(random.Random("boardline: long keys"),
+                            (16, 17, 40, 512, 4096), 32))
+
+
+def key_lines(lengths):
+    """Lines with keys of so many bytes, both ways, of which nothing else is
+    refused."""
+    *_, tweak, data = GOOD[0].split(b" ")
+    for length in lengths:
+        for name in (b"E", b"D"):
+            yield b" ".join([name, b"5a" * length, tweak, data])
+
+
 REFUSED = [
     b"E   ", b"D  00 00", *boardline.lines(boardline.WHOLE_INPUT),
-    GOOD[0][:-2], GOOD[-1] + b"00", GOOD[-1] + b"00" * 20,
+    *key_lines(WRONG_KEYS[32]),
+    GOOD[0][:-2], LONG_KEYS[0][:-2], LONG_KEYS[-1] + b"00",
+    LONG_KEYS[-1] + b"00" * 4, GOOD[-1] + b"00", GOOD[-1] + b"00" * 20,
 ]
 assert {answer(line) for line in REFUSED} == {
     b"no 1", b"no 2", b"no 3", b"no 4", b"no 9"}
@@ -123,14 +140,14 @@ assert len(REFUSED[-1]) == LONGEST
 OVERLONG = [REFUSED[-1] + b"0", REFUSED[-1] + b"00",
             b"0" * LONGEST + GOOD[0], b"\0" * 12000 + GOOD[1]]
 
-EVERY_KIND = [*GOOD, *REFUSED, *OVERLONG, GOOD[3]]
+EVERY_KIND = [*GOOD, *LONG_KEYS, *REFUSED, *OVERLONG, GOOD[3]]
 
 OTHERS = re.sub(rb"[0-9a-f \n]", b"", bytes(range(256)))
 
 
 def malformed(rng):
     """A good line with one character changed to what is no digit."""
-    line = bytearray(rng.choice(GOOD[:8]))
+    line = bytearray(rng.choice(GOOD[:8] + LONG_KEYS[:8]))
     line[rng.randrange(1, len(line))] = rng.choice(OTHERS)
     return bytes(line)
 
@@ -139,7 +156,7 @@ def mixed(seed, size, longest=20000):
     """Lines of all kinds, of at least so many bytes together."""
     rng = random.Random(seed)
     kinds = [
-        lambda: rng.choice(GOOD),
+        lambda: rng.choice(GOOD + LONG_KEYS),
         lambda: rng.choice(REFUSED),
         lambda: malformed(rng),
         lambda: rng.randbytes(rng.randrange(200)).replace(b"\n", b""),

@@ -2,8 +2,8 @@
 
 A block, a state and a word are bytes objects. The byte in row r and column c
 of a state is the byte r + 4c, so a column is four neighbouring bytes. The
-length of the key decides Nk and with it the number of rounds; the cases use
-keys of 16 bytes only.
+length of the key, 4 Nk bytes, decides the number of rounds: 10, 12 or 14.
+Which of these lengths a key has here, hch.py says.
 """
 
 import functools
@@ -46,7 +46,9 @@ PRODUCTS = [bytes(multiply(a, b) for b in range(256)) for a in range(16)]
 
 
 def xor(a, b):
-    return bytes(x ^ y for x, y in zip(a, b, strict=True))
+    assert len(a) == len(b)
+    sum_of_both = int.from_bytes(a, "big") ^ int.from_bytes(b, "big")
+    return sum_of_both.to_bytes(len(a), "big")
 
 
 def key_expansion(key):
@@ -132,13 +134,24 @@ def inv_cipher(key, block):
     return xor(inv_sub_bytes(inv_shift_rows(state)), first)
 
 
-# Appendices B and C.1 of FIPS 197: key, plaintext, ciphertext.
+# Appendices B, C.1 and C.3 of FIPS 197: key, plaintext, ciphertext.
 EXAMPLES = [tuple(map(bytes.fromhex, example)) for example in (
     ("2b7e151628aed2a6abf7158809cf4f3c", "3243f6a8885a308d313198a2e0370734",
      "3925841d02dc09fbdc118597196a0b32"),
     ("000102030405060708090a0b0c0d0e0f", "00112233445566778899aabbccddeeff",
      "69c4e0d86a7b0430d8cdb78070b4c55a"),
+    ("000102030405060708090a0b0c0d0e0f101112131415161718191a1b1c1d1e1f",
+     "00112233445566778899aabbccddeeff", "8ea2b7ca516745bfeafc49904b496089"),
 )]
+
+# Appendices A.1 and A.3: key, and the last four words of the expanded key.
+# The key of A.1 is that of appendix B.
+EXPANSIONS = [
+    (EXAMPLES[0][0], bytes.fromhex("d014f9a8c9ee2589e13f0cc8b6630ca6")),
+    (bytes.fromhex("603deb1015ca71be2b73aef0857d7781"
+                   "1f352c073b6108d72d9810a30914dff4"),
+     bytes.fromhex("fe4890d1e6188d0b046df344706c631e")),
+]
 
 
 def check():
@@ -149,19 +162,14 @@ def check():
     for a in range(256):
         assert INV_BOX[BOX[a]] == BOX[INV_BOX[a]] == a
 
-    # Appendix A.1, its last four words; the key is that of appendix B.
-    words = key_expansion(EXAMPLES[0][0])
-    assert len(words) == 44
-    assert b"".join(words[40:]).hex() == "d014f9a8c9ee2589e13f0cc8b6630ca6"
+    for key, last in EXPANSIONS:
+        assert b"".join(key_expansion(key)[-4:]) == last
+    for length, rounds in ((16, 10), (24, 12), (32, 14)):
+        assert len(key_expansion(bytes(length))) == 4 * (rounds + 1)
 
-    for key, plain, enciphered in EXAMPLES:
+    # Appendix C.2 has the plaintext of C.1 and a key of 24 bytes.
+    between = (bytes(range(24)), EXAMPLES[1][1],
+               bytes.fromhex("dda97ca4864cdfe06eaf70a0ec0d7191"))
+    for key, plain, enciphered in (*EXAMPLES, between):
         assert cipher(key, plain) == enciphered
         assert inv_cipher(key, enciphered) == plain
-
-    # Appendices C.2 and C.3: the same plaintext under longer keys.
-    plain = EXAMPLES[1][1]
-    for length, enciphered in ((24, "dda97ca4864cdfe06eaf70a0ec0d7191"),
-                               (32, "8ea2b7ca516745bfeafc49904b496089")):
-        key = bytes(range(length))
-        assert cipher(key, plain).hex() == enciphered
-        assert inv_cipher(key, bytes.fromhex(enciphered)) == plain

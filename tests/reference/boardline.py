@@ -79,13 +79,15 @@ def check():
     assert lines(b"\nQ") == [b"", b"Q"]
     assert lines(b"a\r\nb\x0b\x0c\x85\0c") == [b"a\r", b"b\x0b\x0c\x85\0c"]
 
-    key, tweak, board = bytes(range(16)), bytes(range(16, 32)), bytes(20)
-    fields = b" ".join(field.hex().encode("ascii")
-                       for field in (key, tweak, board))
-    result = answer(b"E " + fields)
-    assert result == hch.encipher(key, tweak, board).hex().encode("ascii")
-    back = b" ".join([b"D", *fields.split(b" ")[:2], result])
-    assert answer(back) == board.hex().encode("ascii")
+    tweak, board = bytes(range(16, 32)), bytes(20)
+    for length in hch.KEY_LENGTHS:
+        key = bytes(range(length))
+        fields = b" ".join(field.hex().encode("ascii")
+                           for field in (key, tweak, board))
+        result = answer(b"E " + fields)
+        assert result == hch.encipher(key, tweak, board).hex().encode("ascii")
+        back = b" ".join([b"D", *fields.split(b" ")[:2], result])
+        assert answer(back) == board.hex().encode("ascii")
 
     assert answer(b"E   ") == b"no 1"
     for bad in (b"", b"E", b"E ", b"E  ", b"E    ", b" E   ", b"e   ",

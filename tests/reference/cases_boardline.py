@@ -14,10 +14,10 @@ import itertools
 import re
 
 import boardline
+import cases_hch
 from boardline import LONGEST
-from cases_hch import byte_drawer
 from hch import LEAST, MOST
-from lines import digits, line
+from lines import WRONG_KEYS, byte_drawer, digits, line, under_each_key
 
 UNDERSTOOD = re.compile(rb"[ED]( ([0-9a-f]{2})*){3}")
 NAMES = ("E", "D")
@@ -66,9 +66,9 @@ def pair(first, second, key, tweak, data):
     yield given, back
 
 
-def good(draw, length=LEAST):
+def good(draw, length=LEAST, key_length=16):
     """A line that is not refused, which draws all that it holds."""
-    given, answer = case(text("E", draw(16), draw(16), draw(length)))
+    given, answer = case(text("E", draw(key_length), draw(16), draw(length)))
     assert len(answer) == 2 * length
     return given, answer
 
@@ -79,56 +79,74 @@ def example_cases():
         yield case(given)
 
 
-def length_cases():
+def length_cases(key_length):
     """Every residue modulo 16, twice and a bit more, and the edges."""
-    draw = byte_drawer("boardline: lengths")
+    draw = byte_drawer("boardline: lengths", key_length)
     for length in range(LEAST, 51):
-        yield from pair("E", "D", draw(16), draw(16), draw(length))
-        yield from pair("D", "E", draw(16), draw(16), draw(length))
+        yield from pair("E", "D", draw(key_length), draw(16), draw(length))
+        yield from pair("D", "E", draw(key_length), draw(16), draw(length))
     for byte in (b"\x00", b"\xff"):
-        yield from pair("E", "D", 16 * byte, 16 * byte, 33 * byte)
-    yield from pair("E", "D", draw(16), draw(16), draw(512))
-    yield from pair("E", "D", draw(16), draw(16), draw(MOST))
+        yield from pair("E", "D", key_length * byte, 16 * byte, 33 * byte)
+    yield from pair("E", "D", draw(key_length), draw(16), draw(512))
+    yield from pair("E", "D", draw(key_length), draw(16), draw(MOST))
 
 
-def refusal_cases():
+def half_cases():
+    """Keys that share a half: the lines of cases_hch.py."""
+    for given, answer in cases_hch.half_cases():
+        name, fields = given.split(b" ", 1)
+        same = case({b"he": b"E ", b"hd": b"D "}[name] + fields)
+        assert same[1] == answer
+        yield same
+
+
+def refusal_cases(key_length):
     """Each number of the library, and each two of them together."""
-    draw = byte_drawer("boardline: refusals")
-    key, tweak, board = draw(16), draw(16), draw(40)
+    draw = byte_drawer("boardline: refusals", key_length)
+    key, tweak, board = draw(key_length), draw(16), draw(40)
     over = draw(MOST + 1)
-    wrong = (0, 1, 15, 17, 32)
+    shorter, longer = key_length - 1, key_length + 1
+    tweaks = (0, 1, 15, 17, 32)
 
-    for length in wrong:
+    for length in WRONG_KEYS[key_length]:
         yield from both(1, draw(length), tweak, board)
-    yield good(draw)
-    for length in wrong:
+    yield good(draw, key_length=key_length)
+    for length in tweaks:
         yield from both(2, key, draw(length), board)
-    yield good(draw)
+    yield good(draw, key_length=key_length)
     for length in (0, 1, 15):
         yield from both(3, key, tweak, draw(length))
     yield from both(4, key, tweak, over)
-    yield good(draw, LEAST + 1)
+    yield good(draw, LEAST + 1, key_length)
 
-    # Without data that is too long: 1 and 2, 1 and 3, 2 and 3, and all.
-    for length in wrong:
-        for other in wrong:
+    # Without data that is too long: 1 and 2, 1 and 3, 2 and 3, and all. A
+    # wrong key and a wrong tweak have together the bytes of good ones.
+    for length in (0, 1, shorter, longer):
+        for other in tweaks:
             yield from both(1, draw(length), draw(other), board)
         for short in (0, 15):
             yield from both(1, draw(length), tweak, draw(short))
-            yield from both(2, key, draw(length), draw(short))
-            yield from both(1, draw(length), draw(32 - length), draw(short))
+            yield from both(1, draw(length), draw(key_length + 16 - length),
+                            draw(short))
+    for other in tweaks:
+        for short in (0, 15):
+            yield from both(2, key, draw(other), draw(short))
     # With it: 1 and 4, 2 and 4, and all.
-    yield from both(1, draw(15), tweak, over)
+    yield from both(1, draw(shorter), tweak, over)
     yield from both(2, key, draw(17), over)
-    yield refused(1, text("E", draw(17), draw(15), over))
-    yield good(draw)
+    yield refused(1, text("E", draw(longer), draw(15), over))
+    yield good(draw, key_length=key_length)
 
-    # Empty fields, in each place and in several.
+
+def empty_cases(key_length):
+    """Empty fields, in each place and in several."""
+    draw = byte_drawer("boardline: empty fields", key_length)
+    key, tweak, board = draw(key_length), draw(16), draw(40)
     for fields in itertools.product((key, b""), (tweak, b""), (board, b"")):
         if b"" in fields:
             number = 1 + fields.index(b"")
             yield from both(number, *fields)
-    yield good(draw)
+    yield good(draw, key_length=key_length)
 
 
 def malformed_cases():
@@ -213,10 +231,11 @@ def byte_cases():
     yield good(draw)
 
 
-def order_cases():
+def order_cases(key_length):
     """Number 9 before every number of the library."""
-    draw = byte_drawer("boardline: order")
-    key, tweak, data = (digits(draw(length)) for length in (16, 16, 20))
+    draw = byte_drawer("boardline: order", key_length)
+    key, tweak, data = (digits(draw(length))
+                        for length in (key_length, 16, 20))
     over = digits(draw(MOST + 1))
     for name in (b"E", b"D"):
         for fields in (
@@ -234,7 +253,7 @@ def order_cases():
             (key, tweak, over[1:]),
         ):
             yield refused(9, b" ".join((name, *fields)))
-    yield good(draw)
+    yield good(draw, key_length=key_length)
 
 
 def longest_cases():
@@ -262,6 +281,22 @@ def longest_cases():
         yield good(draw)
 
 
+def longest_board_cases():
+    """The longest board under a key of 32 bytes: its line is eight characters
+    shorter than a line may be. Then one byte more, as many as a line may have,
+    and a character too many."""
+    draw = byte_drawer("boardline: longest board")
+    longest = text("D", draw(32), draw(16), draw(MOST_BYTES - 48))
+    assert len(longest) == LONGEST
+    given, answer = case(longest[:-8])
+    assert len(answer) == 2 * MOST
+    yield given, answer
+    yield refused(4, longest[:-6])
+    yield refused(4, longest)
+    yield refused(9, longest + b"0")
+    yield good(draw, key_length=32)
+
+
 def overlong_cases():
     """Lines of which a part would be a good line: the part after as many
     characters as a line may have, or after as many as a read may take."""
@@ -283,8 +318,11 @@ def overlong_cases():
 def cases():
     """All cases; the last line is a good one."""
     given = [one for group in (
-        example_cases, length_cases, refusal_cases, malformed_cases,
-        byte_cases, order_cases, longest_cases, overlong_cases,
+        example_cases,
+        *under_each_key(length_cases, refusal_cases, empty_cases,
+                        order_cases),
+        half_cases, malformed_cases, byte_cases, longest_cases,
+        longest_board_cases, overlong_cases,
     ) for one in group()]
     lines = [text for text, _ in given]
     assert boardline.lines(b"\n".join(lines)) == lines

@@ -17,13 +17,12 @@ change to one group leaves the others as they were.
 import re
 
 import finding
-import hch
 import pack as packs
-from cases_hch import byte_drawer
 from cases_lent import case as lent_case
 from cases_pack import number, opened, po_case, ps_case, refused
 from finding import MOST_BLOCKS, find, write
-from lines import NO, digits, gather, line
+from lines import (NO, answer_of, byte_drawer, digits, gather, line,
+                   under_each_key)
 from pack import SIZE, seal
 
 LAST = (1 << 32) - 1  # the largest place that a line can give
@@ -43,11 +42,8 @@ def numbered(length):
 
 
 def pf_case(pack, place):
-    try:
-        answer = digits(find(pack, place))
-    except hch.Refused as refusal:
-        answer = NO + b" %d" % refusal.number
-    return line("pf", pack.hex(), f"{place:08x}"), answer
+    return (line("pf", pack.hex(), f"{place:08x}"),
+            answer_of(find, pack, place))
 
 
 def found(block, case):
@@ -139,11 +135,11 @@ def length_cases():
         yield refused(10, pf_case(numbered(129 * SIZE), place))
 
 
-def sealed_cases():
+def sealed_cases(key_length):
     """A pack sealed block by block: what is found at a place is what sealing
     answers for it, and it is opened there alone."""
-    draw = byte_drawer("finding: sealed")
-    key, pack_number = draw(16), number(draw(8))
+    draw = byte_drawer("finding: sealed", key_length)
+    key, pack_number = draw(key_length), number(draw(8))
     payloads = [draw(length) for length in (100, 0, packs.MOST)]
     blocks = [seal(key, payload, pack_number, place)
               for place, payload in enumerate(payloads)]
@@ -305,9 +301,9 @@ UNDERSTOOD = re.compile(
 
 def cases():
     """All cases of this part; the last line is understood."""
-    return gather((place_cases, long_cases, length_cases, sealed_cases,
-                   line_cases, writing_cases, writing_refusal_cases,
-                   writing_line_cases), UNDERSTOOD)
+    return gather((place_cases, long_cases, length_cases,
+                   *under_each_key(sealed_cases), line_cases, writing_cases,
+                   writing_refusal_cases, writing_line_cases), UNDERSTOOD)
 
 
 def check():

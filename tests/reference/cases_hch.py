@@ -19,7 +19,8 @@ import aes
 import hch
 from field import ONES, TOP
 from hch import LEAST, MOST
-from lines import LONGEST, NO, drawer, gather, line
+from lines import (LONGEST, NO, WRONG_KEYS, answer_of, byte_drawer, gather,
+                   line, sharing_halves, under_each_key)
 
 ZERO_BLOCK, ONES_BLOCK = bytes(16), b"\xff" * 16
 
@@ -34,11 +35,8 @@ DIRECTIONS = {"he": hch.encipher, "hd": hch.decipher}
 
 
 def case(name, key, tweak, data):
-    try:
-        answer = DIRECTIONS[name](key, tweak, data).hex().encode("ascii")
-    except hch.Refused as refusal:
-        answer = NO + b" %d" % refusal.number
-    return line(name, key.hex(), tweak.hex(), data.hex()), answer
+    return (line(name, key.hex(), tweak.hex(), data.hex()),
+            answer_of(DIRECTIONS[name], key, tweak, data))
 
 
 def refused(number, key, tweak, data, names=("he", "hd")):
@@ -64,62 +62,52 @@ def pair(first, second, key, tweak, data):
     yield text, answer
 
 
-def byte_drawer(seed):
-    """A function that draws so many random bytes."""
-    draw = drawer(seed)
-
-    def bytes_drawn(length):
-        blocks = [draw().to_bytes(16, "big") for _ in range(0, length, 16)]
-        return b"".join(blocks)[:length]
-
-    return bytes_drawn
-
-
-def length_cases():
+def length_cases(key_length):
     """Every length to six blocks, each with two pairs: the first under a key
     and a tweak of its own, the second under some that return in turn."""
-    draw = byte_drawer("hch: lengths")
-    keys = [ZERO_BLOCK, ONES_BLOCK, draw(16)]
+    draw = byte_drawer("hch: lengths", key_length)
+    keys = [bytes(key_length), b"\xff" * key_length, draw(key_length)]
     tweaks = [ZERO_BLOCK, ONES_BLOCK, draw(16), draw(16), draw(16)]
     turns = itertools.cycle(itertools.product(keys, tweaks))
     for length in range(LEAST, 97):
-        yield from pair("he", "hd", draw(16), draw(16), draw(length))
+        yield from pair("he", "hd", draw(key_length), draw(16), draw(length))
         yield from pair("hd", "he", *next(turns), draw(length))
 
 
-def long_cases():
-    draw = byte_drawer("hch: long")
+def long_cases(key_length):
+    draw = byte_drawer("hch: long", key_length)
     for length in (511, 512, 513):
-        yield from pair("he", "hd", draw(16), draw(16), draw(length))
-        yield from pair("hd", "he", draw(16), draw(16), draw(length))
+        yield from pair("he", "hd", draw(key_length), draw(16), draw(length))
+        yield from pair("hd", "he", draw(key_length), draw(16), draw(length))
     for length in (4080, 4081, 4095):
-        yield from pair("he", "hd", draw(16), draw(16), draw(length))
-    yield from pair("he", "hd", draw(16), draw(16), draw(MOST))
-    yield from pair("hd", "he", ONES_BLOCK, ZERO_BLOCK, b"\xff" * MOST)
+        yield from pair("he", "hd", draw(key_length), draw(16), draw(length))
+    yield from pair("he", "hd", draw(key_length), draw(16), draw(MOST))
+    yield from pair("hd", "he", b"\xff" * key_length, ZERO_BLOCK,
+                    b"\xff" * MOST)
 
 
-def lost_file_cases():
-    draw = byte_drawer("hch: lost file")
-    key, tweak, board = draw(16), draw(16), draw(LOST_FILE)
+def lost_file_cases(key_length):
+    draw = byte_drawer("hch: lost file", key_length)
+    key, tweak, board = draw(key_length), draw(16), draw(LOST_FILE)
     yield from pair("he", "hd", key, tweak, board)
     yield from pair("hd", "he", key, tweak, board)
-    yield from both(ZERO_BLOCK, ZERO_BLOCK, bytes(LOST_FILE))
+    yield from both(bytes(key_length), ZERO_BLOCK, bytes(LOST_FILE))
     yield from both(key, tweak, other_bit(board, 0x01))
 
 
-def board_cases():
+def board_cases(key_length):
     """Boards of one byte over and over, which tell a length from the next,
     under keys and tweaks of the same kind."""
-    draw = byte_drawer("hch: boards")
-    blocks = [ZERO_BLOCK, ONES_BLOCK]
+    draw = byte_drawer("hch: boards", key_length)
+    keys = [bytes(key_length), b"\xff" * key_length]
     for length in (16, 17, 20, 31, 32, 33, 48, 49):
-        for key, tweak in itertools.product(blocks, blocks):
+        for key, tweak in itertools.product(keys, (ZERO_BLOCK, ONES_BLOCK)):
             for byte in (b"\x00", b"\xff"):
                 yield from both(key, tweak, byte * length)
-    # The key, the tweak and each block of the data all the same.
+    # The tweak and each block of the key and of the data all the same.
     for length in (16, 24, 48):
         block = draw(16)
-        yield from both(block, block, (3 * block)[:length])
+        yield from both((2 * block)[:key_length], block, (3 * block)[:length])
 
 
 def other_bit(string, bit):
@@ -127,12 +115,12 @@ def other_bit(string, bit):
     return string[:-1] + bytes([string[-1] ^ bit])
 
 
-def bit_cases():
+def bit_cases(key_length):
     """Boards that differ in one bit of the last byte, and then a tweak and a
     key that do."""
-    draw = byte_drawer("hch: bits")
+    draw = byte_drawer("hch: bits", key_length)
     for length in (16, 17, 24, 32, 33, 64, 100):
-        key, tweak, board = draw(16), draw(16), draw(length)
+        key, tweak, board = draw(key_length), draw(16), draw(length)
         yield from both(key, tweak, board)
         for bit in (0x01, 0x80):
             yield from both(key, tweak, other_bit(board, bit))
@@ -140,13 +128,13 @@ def bit_cases():
         yield from both(other_bit(key, 0x01), tweak, board)
 
 
-def hash_cases():
+def hash_cases(key_length):
     """Tweaks chosen so that R is a given block (with R = 0 the hash is that
     of P11), or else Q is."""
-    draw = byte_drawer("hch: hash")
+    draw = byte_drawer("hch: hash", key_length)
     for length in (16, 20, 32, 40, 64):
         for block in (0, 1, TOP, ONES):
-            key, board = draw(16), draw(length)
+            key, board = draw(key_length), draw(length)
             R = hch.binary(block)
             yield from both(key, aes.inv_cipher(key, R), board)
             Q = hch.binary(block)
@@ -154,12 +142,27 @@ def hash_cases():
             yield from both(key, aes.inv_cipher(key, R), board)
 
 
-def refusal_cases():
-    draw = byte_drawer("hch: refusals")
-    key, tweak, board = draw(16), draw(16), draw(40)
-    over = draw(MOST + 1)
+def half_cases():
+    """A board under keys that share a half, and what it becomes under the
+    first of them deciphered under all."""
+    draw = byte_drawer("hch: halves")
+    for length in (16, 40):
+        key, tweak, board = draw(32), draw(16), draw(length)
+        keys = [key, *sharing_halves(key, draw(32))]
+        for each in keys:
+            yield case("he", each, tweak, board)
+            yield case("hd", each, tweak, hch.encipher(key, tweak, board))
+        assert len({hch.encipher(each, tweak, board)
+                    for each in keys}) == len(keys)
 
-    for length in (0, 1, 15, 17, 24, 32):
+
+def refusal_cases(key_length):
+    draw = byte_drawer("hch: refusals", key_length)
+    key, tweak, board = draw(key_length), draw(16), draw(40)
+    over = draw(MOST + 1)
+    shorter, longer = key_length - 1, key_length + 1
+
+    for length in WRONG_KEYS[key_length]:
         yield from refused(1, draw(length), tweak, board)
     yield case("he", key, tweak, draw(LEAST))
     for length in (0, 1, 15, 17, 32):
@@ -172,8 +175,9 @@ def refusal_cases():
     yield case("he", key, tweak, draw(LEAST))
 
     # Several conditions at once, first without data that is too long. A key
-    # of 15 bytes and a tweak of 17, or the reverse, are 32 bytes together.
-    for wrong in (0, 15, 17):
+    # with a byte less and a tweak of 17, or one more and a tweak of 15, have
+    # together the bytes of good ones.
+    for wrong in (0, shorter, longer):
         for other in (0, 15, 17):
             yield from refused(1, draw(wrong), draw(other), board)
             yield from refused(1, draw(wrong), draw(other), draw(15))
@@ -181,12 +185,17 @@ def refusal_cases():
             yield from refused(1, draw(wrong), tweak, draw(length))
             yield from refused(2, key, draw(wrong), draw(length))
     yield from refused(1, b"", b"", b"")
-    yield from refused(1, draw(15), tweak, over)
+    yield from refused(1, draw(shorter), tweak, over)
     yield from refused(2, key, draw(17), over)
-    yield from refused(1, draw(17), draw(15), over, ["he"])
+    yield from refused(1, draw(longer), draw(15), over, ["he"])
     yield case("hd", key, tweak, draw(LEAST + 1))
 
-    # The longest lines that are understood: all in the data, all in the key.
+
+def longest_cases():
+    """The longest lines that are understood: all in the data, all in the
+    key."""
+    draw = byte_drawer("hch: longest")
+    key, tweak = draw(16), draw(16)
     yield from refused(4, key, tweak, draw(MOST_BYTES - 32), ["he"])
     yield from refused(1, draw(MOST_BYTES), b"", b"", ["hd"])
     yield case("he", key, tweak, draw(LEAST + 1))
@@ -256,8 +265,10 @@ UNDERSTOOD = re.compile(rb"h[ed]( ([0-9a-f]{2})*){3}")
 
 def cases():
     """All cases of this part; the last line is understood."""
-    return gather((length_cases, long_cases, lost_file_cases, board_cases,
-                   bit_cases, hash_cases, refusal_cases, line_cases), UNDERSTOOD)
+    return gather((*under_each_key(length_cases, long_cases, lost_file_cases,
+                                   board_cases, bit_cases, hash_cases,
+                                   refusal_cases),
+                   longest_cases, half_cases, line_cases), UNDERSTOOD)
 
 
 def check():

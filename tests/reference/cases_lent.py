@@ -20,15 +20,15 @@ import re
 
 import hch
 import pack as packs
-from cases_hch import MOST_BYTES, byte_drawer, other_bit
+from cases_hch import MOST_BYTES, other_bit
 from cases_pack import (LAST_PACK, by_hand, fields, nonzero, number, with_bit,
                         with_bytes)
 from hch import LEAST
-from lines import digits, gather, line, misread
+from lines import (WRONG_KEYS, byte_drawer, digits, gather, line, misread,
+                   sharing_halves, under_each_key)
 from pack import LAST_PLACE, MOST, SIZE, plain_block, seal
 
 DIRECTIONS = {"le": hch.encipher, "ld": hch.decipher}
-WRONG_KEYS = (0, 1, 15, 17, 24, 32)
 WRONG_BLOCKS = (0, 1, 511, 513, 1024)
 HIGH_PLACES = (LAST_PLACE + 1, (1 << 32) - 1)
 
@@ -88,16 +88,16 @@ def several(*order):
             yield numbers[0], numbers
 
 
-def message_cases():
+def message_cases(key_length):
     """Calls that are done, and each number of HCH alone."""
-    draw = byte_drawer("lent: messages")
-    key, tweak = draw(16), draw(16)
+    draw = byte_drawer("lent: messages", key_length)
+    key, tweak = draw(key_length), draw(16)
     for length in (LEAST, 17, 20, 32, 33, SIZE, hch.MOST):
         board = draw(length)
         yield answers(0, hch_case("le", key, tweak, board))
         yield leaves(board, hch_case(
             "ld", key, tweak, hch.encipher(key, tweak, board)))
-    for length in WRONG_KEYS:
+    for length in WRONG_KEYS[key_length]:
         yield from both(1, draw(length), tweak, draw(40))
     for length in (0, 1, 15, 17, 32):
         yield from both(2, key, draw(length), draw(40))
@@ -107,43 +107,45 @@ def message_cases():
     yield from both(0, key, tweak, draw(LEAST))
 
 
-def message_order_cases():
+def message_order_cases(key_length):
     """Several numbers of HCH at once. Data is never both too short and too
-    long."""
-    draw = byte_drawer("lent: message order")
-    for size, wrong, length in ((3, 15, 15), (3, 17, 0), (3, 0, 1),
-                                (4, 17, hch.MOST + 1)):
+    long. A wrong key and a wrong tweak have together the bytes of good
+    ones."""
+    draw = byte_drawer("lent: message order", key_length)
+    for size, more, length in ((3, -1, 15), (3, 1, 0), (3, -key_length, 1),
+                               (4, 1, hch.MOST + 1)):
         for wanted, numbers in several(1, 2, size):
-            yield from both(wanted, draw(wrong if 1 in numbers else 16),
-                            draw(32 - wrong if 2 in numbers else 16),
-                            draw(length if size in numbers else 40))
+            yield from both(
+                wanted, draw(key_length + (more if 1 in numbers else 0)),
+                draw(16 - (more if 2 in numbers else 0)),
+                draw(length if size in numbers else 40))
 
 
-def sealing_cases():
+def sealing_cases(key_length):
     """Payloads sealed, and the blocks opened again."""
-    draw = byte_drawer("lent: sealing")
+    draw = byte_drawer("lent: sealing", key_length)
     for length, pack, place in ((0, 0, 0), (1, LAST_PACK, LAST_PLACE),
                                 (495, number(draw(8)), 0),
                                 (MOST, number(draw(8)), LAST_PLACE)):
-        key, payload = draw(16), draw(length)
+        key, payload = draw(key_length), draw(length)
         yield answers(0, ls_case(key, pack, place, payload, draw(SIZE)))
         yield leaves(plain_block(payload, pack, place), lo_case(
             key, pack, place, seal(key, payload, pack, place)))
 
     # "What the lent block held before has no effect": other bytes, the plain
     # block, and the sealed one.
-    key, pack, payload = draw(16), number(draw(8)), draw(20)
+    key, pack, payload = draw(key_length), number(draw(8)), draw(20)
     block = seal(key, payload, pack, 3)
     for lent in (bytes(SIZE), b"\xff" * SIZE, draw(SIZE), block,
                  plain_block(payload, pack, 3)):
         yield leaves(block, ls_case(key, pack, 3, payload, lent))
 
 
-def sealing_refusal_cases():
+def sealing_refusal_cases(key_length):
     """Each number of sealing alone, and several at once."""
-    draw = byte_drawer("lent: sealing refusals")
-    key, pack, payload = draw(16), number(draw(8)), draw(3)
-    for length in WRONG_KEYS:
+    draw = byte_drawer("lent: sealing refusals", key_length)
+    key, pack, payload = draw(key_length), number(draw(8)), draw(3)
+    for length in WRONG_KEYS[key_length]:
         yield answers(1, ls_case(draw(length), pack, 3, payload, draw(SIZE)))
     for length in WRONG_BLOCKS:
         yield answers(7, ls_case(key, pack, 3, payload, draw(length)))
@@ -152,7 +154,7 @@ def sealing_refusal_cases():
     for place in HIGH_PLACES:
         yield answers(6, ls_case(key, pack, place, payload, draw(SIZE)))
 
-    for wrong, length in ((15, 511), (17, 1), (0, 0)):
+    for wrong, length in ((key_length - 1, 511), (key_length + 1, 1), (0, 0)):
         for wanted, numbers in several(1, 7, 5, 6):
             yield answers(wanted, ls_case(
                 draw(wrong) if 1 in numbers else key, pack,
@@ -164,13 +166,13 @@ def sealing_refusal_cases():
     yield answers(0, ls_case(key, pack, 3, payload, draw(SIZE)))
 
 
-def opening_refusal_cases():
+def opening_refusal_cases(key_length):
     """The numbers of opening before its check, each alone, and several at
     once, number 8 too."""
-    draw = byte_drawer("lent: opening refusals")
-    key, pack, payload = draw(16), number(draw(8)), draw(100)
+    draw = byte_drawer("lent: opening refusals", key_length)
+    key, pack, payload = draw(key_length), number(draw(8)), draw(100)
     block = seal(key, payload, pack, 3)
-    for length in WRONG_KEYS:
+    for length in WRONG_KEYS[key_length]:
         yield answers(1, lo_case(draw(length), pack, 3, block))
     for length in WRONG_BLOCKS:
         yield answers(7, lo_case(key, pack, 3, (2 * block)[:length]))
@@ -179,7 +181,7 @@ def opening_refusal_cases():
         yield answers(6, lo_case(key, pack, place, by_hand(
             key, pack, place, plain_block(payload, pack, place))))
 
-    for wrong, length in ((15, 511), (17, 1), (0, 0)):
+    for wrong, length in ((key_length - 1, 511), (key_length + 1, 1), (0, 0)):
         for wanted, numbers in several(1, 7, 6, 8):
             place = LAST_PLACE + 4 if 6 in numbers else 3
             lent = by_hand(key, pack, place, plain_block(payload, pack, place))
@@ -191,11 +193,11 @@ def opening_refusal_cases():
     yield answers(0, lo_case(key, pack, 3, block))
 
 
-def check_cases():
+def check_cases(key_length):
     """Blocks that fail their check. "Leaving deciphered bytes behind" would
     show."""
-    draw = byte_drawer("lent: check")
-    key, pack, payload = draw(16), number(draw(8)), nonzero(draw(20))
+    draw = byte_drawer("lent: check", key_length)
+    key, pack, payload = draw(key_length), number(draw(8)), nonzero(draw(20))
     block, plain = seal(key, payload, pack, 3), plain_block(payload, pack, 3)
 
     # The table's own example, other packs and keys, and damaged blocks.
@@ -218,6 +220,20 @@ def check_cases():
     for other in wrong:
         yield answers(8, lo_case(key, pack, 3, by_hand(key, pack, 3, other)))
     yield answers(0, lo_case(key, pack, 3, by_hand(key, pack, 3, plain)))
+
+
+def half_cases():
+    """A message and a block under keys that share a half. The block opens
+    under the first of them alone."""
+    draw = byte_drawer("lent: halves")
+    key, tweak, board, pack = draw(32), draw(16), draw(33), number(draw(8))
+    block = seal(key, board, pack, 3)
+    yield answers(0, lo_case(key, pack, 3, block))
+    yield from both(0, key, tweak, board)
+    for other in sharing_halves(key, draw(32)):
+        yield answers(8, lo_case(other, pack, 3, block))
+        yield answers(0, ls_case(other, pack, 3, board, block))
+        yield from both(0, other, tweak, board)
 
 
 def line_cases():
@@ -248,9 +264,10 @@ UNDERSTOOD = re.compile(
 
 def cases():
     """All cases of this part; the last line is understood."""
-    return gather((message_cases, message_order_cases, sealing_cases,
-                   sealing_refusal_cases, opening_refusal_cases, check_cases,
-                   line_cases), UNDERSTOOD)
+    return gather((*under_each_key(message_cases, message_order_cases,
+                                   sealing_cases, sealing_refusal_cases,
+                                   opening_refusal_cases, check_cases),
+                   half_cases, line_cases), UNDERSTOOD)
 
 
 def check():

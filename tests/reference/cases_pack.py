@@ -18,11 +18,11 @@ import re
 
 import hch
 import pack as packs
-from cases_hch import byte_drawer, other_bit
-from lines import LONGEST, NO, gather, line
+from cases_hch import other_bit
+from lines import (LONGEST, NO, WRONG_KEYS, answer_of, byte_drawer, gather,
+                   line, sharing_halves, under_each_key)
 from pack import LAST_PLACE, MOST, SIZE, plain_block, seal, tweak
 
-ZERO_BLOCK, ONES_BLOCK = bytes(16), b"\xff" * 16
 LAST_PACK = (1 << 64) - 1
 
 # A line holds a command, four spaces, 24 digits of pack and place, and two
@@ -36,11 +36,8 @@ def fields(name, key, pack, place, *rest):
 
 
 def ps_case(key, pack, place, payload):
-    try:
-        answer = seal(key, payload, pack, place).hex().encode("ascii")
-    except hch.Refused as refusal:
-        answer = NO + b" %d" % refusal.number
-    return fields("ps", key, pack, place, payload), answer
+    return (fields("ps", key, pack, place, payload),
+            answer_of(seal, key, payload, pack, place))
 
 
 def po_case(key, pack, place, block):
@@ -97,31 +94,32 @@ def by_hand(key, pack, place, plain):
     return hch.encipher(key, tweak(pack, place), plain)
 
 
-def example_cases():
+def example_cases(key_length):
     """01's P12 to P14: the tweak of pack 1 and place 258, a plain block of
     zeros, and a payload of three bytes."""
-    draw = byte_drawer("pack: examples")
-    for key in (ZERO_BLOCK, draw(16)):
+    draw = byte_drawer("pack: examples", key_length)
+    for key in (bytes(key_length), draw(key_length)):
         yield from pair(key, 1, 258, b"\x41\x42\x43")
         yield from pair(key, 0, 0, b"")
         yield from pair(key, 1, 2, b"\x41\x42\x43")
 
 
-def length_cases():
-    draw = byte_drawer("pack: lengths")
+def length_cases(key_length):
+    draw = byte_drawer("pack: lengths", key_length)
     for length in (0, 1, 3, 15, 16, 17, 32, 255, 256, 480, 481, 495, MOST):
-        yield from pair(draw(16), number(draw(8)), number(draw(2)),
+        yield from pair(draw(key_length), number(draw(8)), number(draw(2)),
                         nonzero(draw(length)))
     # Payloads of zeros, which u alone tells apart, and of ones.
-    key, pack, place = draw(16), number(draw(8)), number(draw(2))
+    key, pack, place = draw(key_length), number(draw(8)), number(draw(2))
     for length in (0, 1, 495, MOST):
         yield from pair(key, pack, place, bytes(length))
-    yield from pair(ONES_BLOCK, LAST_PACK, LAST_PLACE, b"\xff" * MOST)
+    yield from pair(b"\xff" * key_length, LAST_PACK, LAST_PLACE,
+                    b"\xff" * MOST)
 
 
-def number_cases():
-    draw = byte_drawer("pack: numbers")
-    key, pack, payload = draw(16), number(draw(8)), draw(20)
+def number_cases(key_length):
+    draw = byte_drawer("pack: numbers", key_length)
+    key, pack, payload = draw(key_length), number(draw(8)), draw(20)
     for place in (0, 1, 2, 258, 65534, LAST_PLACE):
         yield from pair(key, pack, place, payload)
     for other in (0, 1, 1 << 63, LAST_PACK):
@@ -136,22 +134,33 @@ def number_cases():
                 key, other, place, plain_block(payload, other, place))))
 
 
-def other_cases():
+def other_cases(key_length):
     """Blocks opened as what they were not sealed for."""
-    draw = byte_drawer("pack: others")
-    key, pack, payload = draw(16), number(draw(8)), draw(100)
+    draw = byte_drawer("pack: others", key_length)
+    key, pack, payload = draw(key_length), number(draw(8)), draw(100)
     block = seal(key, payload, pack, 3)
     yield from pair(key, pack, 3, payload)
     for place in (2, 4, 0x0103, 0x8003):
         yield refused(8, po_case(key, pack, place, block))
     for bit in (0, 31, 32, 63):
         yield refused(8, po_case(key, pack ^ 1 << bit, 3, block))
-    for other in (other_bit(key, 0x01), draw(16)):
+    for other in (other_bit(key, 0x01), draw(key_length)):
         yield refused(8, po_case(other, pack, 3, block))
     # The pack number and the place exchanged.
     yield refused(8, po_case(key, 4, 3, seal(key, payload, 3, 4)))
     # A place over 65,535 does not stand for its last 16 bits.
     yield refused(6, po_case(key, pack, 65536 + 3, block))
+
+
+def half_cases():
+    """A payload sealed under keys that share a half, and the block of the
+    first of them opened under the others."""
+    draw = byte_drawer("pack: halves")
+    key, pack, payload = draw(32), number(draw(8)), draw(20)
+    yield from pair(key, pack, 3, payload)
+    for other in sharing_halves(key, draw(32)):
+        yield ps_case(other, pack, 3, payload)
+        yield refused(8, po_case(other, pack, 3, seal(key, payload, pack, 3)))
 
 
 def bit_cases():
@@ -166,11 +175,12 @@ def bit_cases():
             block, 16 * i + 7 * i % 16, 1 << (3 * i + i // 16) % 8)))
 
 
-def any_block_cases():
+def any_block_cases(key_length):
     """Blocks that sealing did not write."""
-    draw = byte_drawer("pack: any block")
-    for key, pack, place in ((ZERO_BLOCK, 0, 0),
-                             (draw(16), number(draw(8)), number(draw(2)))):
+    draw = byte_drawer("pack: any block", key_length)
+    for key, pack, place in (
+            (bytes(key_length), 0, 0),
+            (draw(key_length), number(draw(8)), number(draw(2)))):
         for block in (bytes(SIZE), b"\xff" * SIZE, draw(SIZE)):
             yield refused(8, po_case(key, pack, place, block))
         # A plain block that was not enciphered.
@@ -254,9 +264,9 @@ def by_hand_cases():
     yield opened(20, po(plain))
 
 
-def refusal_cases():
-    draw = byte_drawer("pack: refusals")
-    key, pack, place = draw(16), number(draw(8)), number(draw(2))
+def refusal_cases(key_length):
+    draw = byte_drawer("pack: refusals", key_length)
+    key, pack, place = draw(key_length), number(draw(8)), number(draw(2))
     payload, over = draw(40), draw(MOST + 1)
     block = seal(key, payload, pack, place)
     bad_place = LAST_PLACE + 1
@@ -264,7 +274,7 @@ def refusal_cases():
 
     # One by one. Blocks under 16 bytes and over 4,096, which HCH refuses with
     # other numbers, are among them.
-    for length in (0, 1, 15, 17, 32):
+    for length in WRONG_KEYS[key_length]:
         wrong = draw(length)
         yield refused(1, ps_case(wrong, pack, place, payload))
         yield refused(1, po_case(wrong, pack, place, block))
@@ -278,9 +288,9 @@ def refusal_cases():
     yield refused(8, po_case(key, pack, place, bad_block))
     yield from pair(key, pack, place, b"")
 
-    # Several at once. A key of 17 bytes and a payload of 495, or a block of
-    # 511, have together the bytes of good ones.
-    for wrong in (draw(15), draw(17)):
+    # Several at once. A key with a byte more and a payload of 495, or a block
+    # of 511, have together the bytes of good ones.
+    for wrong in (draw(key_length - 1), draw(key_length + 1)):
         yield refused(1, ps_case(wrong, pack, place, over))
         yield refused(1, ps_case(wrong, pack, bad_place, payload))
         yield refused(1, ps_case(wrong, pack, bad_place, over))
@@ -288,7 +298,7 @@ def refusal_cases():
         yield refused(1, po_case(wrong, pack, bad_place, block))
         yield refused(1, po_case(wrong, pack, bad_place, block[:511]))
         yield refused(1, po_case(wrong, pack, place, bad_block))
-    yield refused(1, ps_case(draw(17), pack, place, over[:495]))
+    yield refused(1, ps_case(draw(key_length + 1), pack, place, over[:495]))
     yield refused(1, ps_case(b"", 0, 0, b""))
     yield refused(1, po_case(b"", 0, 0, b""))
     yield refused(5, ps_case(key, pack, bad_place, over))
@@ -298,11 +308,15 @@ def refusal_cases():
     yield refused(7, po_case(key, pack, place, bytes(511)))
     yield from pair(key, pack, place, payload[:17])
 
-    # The longest line that is understood.
+
+def longest_cases():
+    """The longest line that is understood."""
+    draw = byte_drawer("pack: longest")
+    key, pack, place = draw(16), number(draw(8)), number(draw(2))
     longest = ps_case(key, pack, place, draw(MOST_BYTES - 16))
     assert len(longest[0]) == LONGEST
     yield refused(5, longest)
-    yield from pair(key, pack, place, payload[:16])
+    yield from pair(key, pack, place, draw(16))
 
 
 def line_cases():
@@ -373,9 +387,13 @@ UNDERSTOOD = re.compile(rb"p[so] (D{2})* D{16} D{8} (D{2})*".replace(
 
 
 def cases():
-    """All cases of this part; the last line is understood."""
-    return gather((example_cases, length_cases, number_cases, other_cases,
-                   bit_cases, any_block_cases, by_hand_cases, refusal_cases,
+    """All cases of this part; the last line is understood. Each part of the
+    check is tried under keys of 16 bytes here; cases_lent.py tries it under
+    both."""
+    return gather((*under_each_key(example_cases, length_cases, number_cases,
+                                   other_cases, any_block_cases,
+                                   refusal_cases),
+                   bit_cases, by_hand_cases, longest_cases, half_cases,
                    line_cases), UNDERSTOOD)
 
 

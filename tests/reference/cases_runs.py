@@ -20,13 +20,14 @@ change to one group leaves the others as they were.
 import re
 
 import runs
-from cases_hch import byte_drawer, other_bit
-from cases_lent import HIGH_PLACES, WRONG_KEYS, answers, case, leaves, several
+from cases_hch import other_bit
+from cases_lent import HIGH_PLACES, answers, case, leaves, several
 from cases_pack import (LAST_PACK, by_hand, fields, nonzero, number, with_bit,
                         with_bytes)
 from finding import MOST_BLOCKS
 from hch import Refused
-from lines import LONGEST, NO, digits, gather, line, misread
+from lines import (LONGEST, NO, WRONG_KEYS, byte_drawer, digits, gather, line,
+                   misread, sharing_halves, under_each_key)
 from pack import LAST_PLACE, MOST, SIZE, plain_block, seal
 from runs import Failed, open_run, parts, seal_run
 
@@ -36,6 +37,12 @@ LARGEST = 65535  # the largest entry of a list
 # A line holds a command, five spaces, 24 digits of pack and first place, and
 # four digits for each of so many entries where the other fields are empty.
 MOST_ENTRIES = (LONGEST - 31) // 4
+
+# The runs of many blocks under keys of each length, and their first places:
+# few, since these lines and their answers are long.
+LONG_RUNS = {16: ((40, 0), (127, 300),
+                  (MOST_BLOCKS, LAST_PLACE - MOST_BLOCKS + 1)),
+             32: ((40, LAST_PLACE - 39),)}
 
 
 def entries(lengths):
@@ -113,27 +120,28 @@ def short(lengths):
     return tuple(u % (MOST + 1) for u in lengths)
 
 
-def done_cases():
+def done_cases(key_length):
     """Runs of few blocks, with lengths and places at their edges. What stands
     behind a payload is not zero, and neither is what the list holds when the
     run is opened."""
-    draw = byte_drawer("runs: done")
+    draw = byte_drawer("runs: done", key_length)
     for first, lengths in ((0, (0,)), (1, (MOST,)), (LAST_PLACE, (3,)),
                            (255, (0, MOST)), (LAST_PLACE - 1, (495, 1)),
                            (257, (MOST, 0, 20)),
                            (LAST_PLACE - 2, (1, 256, MOST))):
         n = len(lengths)
-        yield from pair(draw(16), number(draw(8)), first, lengths,
+        yield from pair(draw(key_length), number(draw(8)), first, lengths,
                         nonzero(draw(n * SIZE)), drawn_list(draw, n))
     for pack in (0, LAST_PACK):
-        yield from pair(draw(16), pack, 0, (5, 0), nonzero(draw(2 * SIZE)),
-                        (LARGEST, MOST + 1))
+        yield from pair(draw(key_length), pack, 0, (5, 0),
+                        nonzero(draw(2 * SIZE)), (LARGEST, MOST + 1))
     # 01's P13, and the same for the next place.
-    yield from pair(bytes(16), 0, 0, (0, 0), b"\xff" * 2 * SIZE, (0, 0))
+    yield from pair(bytes(key_length), 0, 0, (0, 0), b"\xff" * 2 * SIZE,
+                    (0, 0))
 
     # "The rest of the block is overwritten": other bytes there, the plain
     # run, and the sealed one, which holds no payload.
-    key, pack, lengths = draw(16), number(draw(8)), (20, 0)
+    key, pack, lengths = draw(key_length), number(draw(8)), (20, 0)
     payload = draw(20)
     plain = plain_run(pack, 3, (payload, b""))
     sealed = enciphered(key, pack, 3, plain)
@@ -143,11 +151,11 @@ def done_cases():
             lent, 0, payload)))
 
 
-def other_block_cases():
+def other_block_cases(key_length):
     """A run that "still opens after one block's bytes are changed": the change
     "does not alter what the others open to"."""
-    draw = byte_drawer("runs: other block")
-    key, pack, first = draw(16), number(draw(8)), number(draw(2)) // 2
+    draw = byte_drawer("runs: other block", key_length)
+    key, pack, first = draw(key_length), number(draw(8)), number(draw(2)) // 2
     payloads = [draw(100), draw(7), draw(MOST)]
     run = enciphered(key, pack, first, plain_run(pack, first, payloads))
     for i in range(3):
@@ -157,35 +165,52 @@ def other_block_cases():
                 run, SIZE * i, seal(key, changed[i], pack, first + i))))
 
 
-def long_cases():
-    """Runs of many blocks: few, since these lines and their answers are
-    long."""
-    draw = byte_drawer("runs: long")
-    key, pack = draw(16), number(draw(8))
-    for n, first in ((40, 0), (127, 300),
-                     (MOST_BLOCKS, LAST_PLACE - MOST_BLOCKS + 1)):
+def long_cases(key_length):
+    draw = byte_drawer("runs: long", key_length)
+    key, pack = draw(key_length), number(draw(8))
+    for n, first in LONG_RUNS[key_length]:
         run = nonzero(draw(n * SIZE))
         yield from pair(key, pack, first, short(drawn_list(draw, n)), run,
                         drawn_list(draw, n))
-    # One block more, with a list as long, and with one as long as a run may
-    # be.
-    longer = run + draw(SIZE)
-    yield answers(10, rs_case(key, pack, 0, (n + 1) * (MOST,), longer))
-    yield keeps(b"10", ro_case(key, pack, 0, n * (MOST,), longer))
 
 
-def key_cases():
-    draw = byte_drawer("runs: keys")
-    for length in WRONG_KEYS:
+def too_long_cases():
+    """Runs of one block too many, with a list as long, and with one as long
+    as a run may be."""
+    draw = byte_drawer("runs: too long")
+    key, pack, n = draw(16), number(draw(8)), MOST_BLOCKS
+    run = draw((n + 1) * SIZE)
+    yield answers(10, rs_case(key, pack, 0, (n + 1) * (MOST,), run))
+    yield keeps(b"10", ro_case(key, pack, 0, n * (MOST,), run))
+
+
+def key_cases(key_length):
+    draw = byte_drawer("runs: keys", key_length)
+    for length in WRONG_KEYS[key_length]:
         yield from refused(1, draw(length), number(draw(8)), 3, (5,),
                            draw(SIZE))
 
 
-def length_cases():
+def half_cases():
+    """A run opened under keys that share a half with its own, and a run of
+    which one block was sealed under such a key."""
+    draw = byte_drawer("runs: halves")
+    key, pack, lengths = draw(32), number(draw(8)), (20, MOST)
+    run = draw(2 * SIZE)
+    yield from pair(key, pack, 3, lengths, run, (0, 0))
+    sealed = seal_run(key, pack, 3, lengths, run)
+    for other in sharing_halves(key, draw(32)):
+        yield answers(0, rs_case(other, pack, 3, lengths, run))
+        yield keeps(b"8 3", ro_case(other, pack, 3, (7, 7), sealed))
+        yield keeps(b"8 4", ro_case(key, pack, 3, (7, 7), with_bytes(
+            sealed, SIZE, seal(other, run[SIZE:][:MOST], pack, 4))))
+
+
+def length_cases(key_length):
     """Runs that are not 1 to 128 whole blocks, with as many entries as there
     are whole blocks, and with one more. The blocks would open."""
-    draw = byte_drawer("runs: lengths")
-    key, pack = draw(16), number(draw(8))
+    draw = byte_drawer("runs: lengths", key_length)
+    key, pack = draw(key_length), number(draw(8))
     run = enciphered(key, pack, 3, plain_run(
         pack, 3, (draw(20), b"", draw(MOST))))
     for length in (0, 1, 16, 511, 513, 1023, 1025):
@@ -194,10 +219,10 @@ def length_cases():
             yield from refused(10, key, pack, 3, lent, run[:length])
 
 
-def list_cases():
+def list_cases(key_length):
     """Lists of other lengths than the run's. The blocks would open."""
-    draw = byte_drawer("runs: lists")
-    key, pack = draw(16), number(draw(8))
+    draw = byte_drawer("runs: lists", key_length)
+    key, pack = draw(key_length), number(draw(8))
     run = enciphered(key, pack, 3, plain_run(
         pack, 3, (draw(20), b"", draw(MOST))))
     for n, others in ((1, (0, 2, 128, 130, 256, 257)),
@@ -207,11 +232,11 @@ def list_cases():
                 drawn_list(draw, length)), run[:n * SIZE])
 
 
-def entry_cases():
+def entry_cases(key_length):
     """Entries over 496, at every place of the list. Opening does not look at
     them."""
-    draw = byte_drawer("runs: entries")
-    key, pack = draw(16), number(draw(8))
+    draw = byte_drawer("runs: entries", key_length)
+    key, pack = draw(key_length), number(draw(8))
     for over in (MOST + 1, 511, 512, 513, 0x0300, 0xf001, LARGEST):
         yield answers(5, rs_case(key, pack, 3, (over,), draw(SIZE)))
     for n in (2, 3):
@@ -225,12 +250,12 @@ def entry_cases():
         yield from pair(key, pack, 3, n * (MOST,), run, n * (MOST + 1,))
 
 
-def place_cases():
+def place_cases(key_length):
     """Last places over 65,535, also where a sum of 16 or of 32 bits would
     wrap. The blocks would open; done_cases has the last places that are not
     too high."""
-    draw = byte_drawer("runs: places")
-    key, pack = draw(16), number(draw(8))
+    draw = byte_drawer("runs: places", key_length)
+    key, pack = draw(key_length), number(draw(8))
     for n in (1, 2, 3):
         payloads = [draw(20 * i) for i in range(n)]
         for first in (LAST_PLACE - n + 2, 65536 + 3, 1 << 31, PLACES - n,
@@ -239,11 +264,11 @@ def place_cases():
                 key, pack, first, plain_run(pack, first, payloads)))
 
 
-def check_cases():
+def check_cases(key_length):
     """Runs with blocks that will not open: "the whole run and the list stay
     unchanged, and the answer adds the smallest failing place"."""
-    draw = byte_drawer("runs: check")
-    key, pack, lent = draw(16), number(draw(8)), (7, MOST, LARGEST)
+    draw = byte_drawer("runs: check", key_length)
+    key, pack, lent = draw(key_length), number(draw(8)), (7, MOST, LARGEST)
     payloads = nonzero(draw(20)), b"", nonzero(draw(MOST))
     plain = plain_run(pack, 3, payloads)
     run = enciphered(key, pack, 3, plain)
@@ -301,12 +326,14 @@ def check_cases():
     yield opens(payloads, pack, 3, ro_case(key, pack, 3, lent, run))
 
 
-def order_cases():
+def order_cases(key_length):
     """Several numbers at once, in every way. The list is too short, or too
     long; where an entry is over 496, it is the last."""
-    draw = byte_drawer("runs: order")
-    key, pack = draw(16), number(draw(8))
-    for n, other, wrong, length in ((2, 1, 15, 1023), (1, 2, 17, 513)):
+    draw = byte_drawer("runs: order", key_length)
+    key, pack = draw(key_length), number(draw(8))
+    shorter, longer = key_length - 1, key_length + 1
+    for n, other, wrong, length in ((2, 1, shorter, 1023),
+                                    (1, 2, longer, 513)):
         for wanted, numbers in several(1, 10, 11, 5, 6):
             lengths = [20] * (other if 11 in numbers else n)
             if 5 in numbers:
@@ -315,7 +342,7 @@ def order_cases():
                 draw(wrong) if 1 in numbers else key, pack,
                 LAST_PLACE - n + 2 if 6 in numbers else 3, tuple(lengths),
                 draw(length if 10 in numbers else n * SIZE)))
-    for other, wrong, length in ((0, 15, 511), (2, 17, 513)):
+    for other, wrong, length in ((0, shorter, 511), (2, longer, 513)):
         for wanted, numbers in several(1, 10, 11, 6, 8):
             first = LAST_PLACE + 1 if 6 in numbers else 3
             run = enciphered(key, pack, first, plain_run(
@@ -369,9 +396,11 @@ UNDERSTOOD = re.compile(
 
 def cases():
     """All cases of this part; the last line is understood."""
-    return gather((done_cases, other_block_cases, long_cases, key_cases,
-                   length_cases, list_cases, entry_cases, place_cases,
-                   check_cases, order_cases, line_cases), UNDERSTOOD)
+    return gather((*under_each_key(done_cases, other_block_cases, long_cases,
+                                   key_cases, length_cases, list_cases,
+                                   entry_cases, place_cases, check_cases,
+                                   order_cases),
+                   too_long_cases, half_cases, line_cases), UNDERSTOOD)
 
 
 def check():

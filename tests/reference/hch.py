@@ -1,4 +1,5 @@
-"""HCH, written from 01-scope.md and the paper on HCH, source document 001.
+"""HCH, written from 01-scope.md and the paper on HCH, source document 001;
+what a key is, from Point 3 of 02-change-requests.md.
 
 The letters and the order of the steps are those of the paper's Table II; in
 the names, C_m is C with the index m. Strings are bytes objects: "here n is
@@ -9,6 +10,7 @@ int: the same digits read as a big-endian number.
 A call that is not done raises Refused, with its number in 01.
 """
 
+import functools
 import random
 
 import aes
@@ -17,6 +19,7 @@ from aes import xor
 
 N = 128  # the paper's n
 LEAST, MOST = 16, 4096  # bytes: "an admitted length is 16 to 4,096 bytes"
+KEY_LENGTHS = (16, 32)  # bytes: "must accept 16 or 32 bytes"
 
 
 class Refused(Exception):
@@ -27,12 +30,19 @@ class Refused(Exception):
         self.number = number
 
 
+def look_at_key(key):
+    """What every call looks at first: "number 1 now means a key of neither
+    length".
+    """
+    if len(key) not in KEY_LENGTHS:
+        raise Refused(1)
+
+
 def look_at(key, tweak, data):
     """"Where several conditions hold, the first in the order below is the one
     returned": "HCH looks at 1, 2, 3, 4 in this order".
     """
-    if len(key) != 16:
-        raise Refused(1)
+    look_at_key(key)
     if len(tweak) != 16:
         raise Refused(2)
     if len(data) < LEAST:
@@ -73,19 +83,25 @@ def times_x(block):
     return binary(field.times_x(int.from_bytes(block, "big")))
 
 
+@functools.cache  # a call hashes twice with one R
+def powers(R, m):
+    """The powers of R from 0 to m - 1, each from the one before it."""
+    result = [1]
+    while len(result) < m:
+        result.append(field.product(result[-1], R))
+    return result
+
+
 def polynomial_hash(R, Q, A):
     """H with R and Q over the blocks A_1 to A_m, by the paper's formula (1):
-    Q and A_1 and, for i from 2 to m, A_i times R to the power m - i + 1. The
-    powers of R are made once, each from the one before it.
+    Q and A_1 and, for i from 2 to m, A_i times R to the power m - i + 1.
     """
     R, Q, *A = (int.from_bytes(block, "big") for block in (R, Q, *A))
     m = len(A)
-    powers = [1]
-    while len(powers) < m:
-        powers.append(field.product(powers[-1], R))
+    power = powers(R, m)
     result = Q ^ A[0]
     for i in range(2, m + 1):
-        result ^= field.product(A[i - 1], powers[m - i + 1])
+        result ^= field.product(A[i - 1], power[m - i + 1])
     return binary(result)
 
 
@@ -181,12 +197,12 @@ def number_of(key, tweak, data):
 
 
 def check():
-    """The examples P9 to P11 of 01, its numbers and edges, property (2) of
-    the paper, and that the two directions undo each other.
+    """The examples P9 to P11 of 01, its edges, property (2) of the paper, and
+    that the two directions undo each other.
     """
     rng = random.Random("hch: check")
     zeros, ones = bytes(16), b"\xff" * 16
-    K, T = rng.randbytes(16), rng.randbytes(16)
+    K, T, longer = rng.randbytes(16), rng.randbytes(16), rng.randbytes(32)
 
     for length, digits in ((20, "a0"), (512, "1000"), (4096, "8000")):  # P9
         assert binary(formatting(bytes(length))[0]).hex() == digits.zfill(32)
@@ -215,11 +231,12 @@ def check():
 
     # One block: E between the two masks, Q and xQ.
     P_1 = rng.randbytes(16)
-    Q = aes.cipher(K, xor(aes.cipher(K, T), binary(128)))
-    assert encipher(K, T, P_1) == xor(
-        times_x(Q), aes.cipher(K, xor(Q, P_1)))
+    for key in (K, longer):
+        Q = aes.cipher(key, xor(aes.cipher(key, T), binary(128)))
+        assert encipher(key, T, P_1) == xor(
+            times_x(Q), aes.cipher(key, xor(Q, P_1)))
 
-    for key in (zeros, ones, K):
+    for key in (zeros, ones, K, 2 * zeros, 2 * ones, longer):
         for tweak in (zeros, ones, T):
             for length in (16, 17, 31, 32, 33, 47, 48, 100):
                 data = rng.randbytes(length)
@@ -230,10 +247,16 @@ def check():
     # "16 bytes and 4,096 bytes are enciphered."
     data = rng.randbytes(MOST)
     assert decipher(K, T, encipher(K, T, data)) == data
+    for key in (K, longer):
+        check_numbers(key, T)
 
-    # The table's small examples, and the order.
-    assert number_of(K, T, zeros) == 0
-    assert number_of(b"\x00", T, zeros) == 1
+
+def check_numbers(K, T):
+    """The table's small examples, and the order of the numbers."""
+    zeros = bytes(16)
+    for length in range(65):
+        assert number_of(bytes(length), T, zeros) == (
+            0 if length in (16, 32) else 1)
     assert number_of(K, b"", zeros) == 2
     assert number_of(K, T, bytes(15)) == number_of(K, T, b"") == 3
     assert number_of(K, T, bytes(4097)) == 4

@@ -10,7 +10,7 @@ import functools
 import random
 
 import hch
-from hch import Refused
+from hch import KEY_LENGTHS, Refused, look_at_key
 
 SIZE = 512  # bytes
 MOST = 496  # bytes: "payloads of 0 to 496 bytes"
@@ -57,8 +57,7 @@ def seal(key, payload, pack, place, length=SIZE):
     """The sealed block. "Sealing looks at 1, 7, 5, 6." Of the lent block only
     the length is given, as "what the lent block held before has no effect".
     """
-    if len(key) != 16:
-        raise Refused(1)
+    look_at_key(key)
     if length != SIZE:
         raise Refused(7)
     if len(payload) > MOST:
@@ -73,8 +72,7 @@ def open(key, pack, place, block):
     """"Opening looks at 1, 7, 6, 8", and then "leaves the plain block in the
     lent bytes and returns u": here it returns both.
     """
-    if len(key) != 16:
-        raise Refused(1)
+    look_at_key(key)
     if len(block) != SIZE:
         raise Refused(7)
     if place > LAST_PLACE:
@@ -99,7 +97,7 @@ def check():
     undoes sealing, and that the check passes plain blocks alone.
     """
     rng = random.Random("pack: check")
-    key = rng.randbytes(16)
+    keys = [rng.randbytes(length) for length in KEY_LENGTHS]
 
     assert tweak(1, 258) == bytes.fromhex(  # P12
         "00 00 00 00 00 00 00 01 00 00 00 00 00 00 01 02")
@@ -112,8 +110,9 @@ def check():
     lengths = (0, 1, 16, 495, 496)
     packs = (0, 1, rng.getrandbits(64), (1 << 64) - 1)
     places = (0, 258, LAST_PLACE)
-    for i in range(12):
+    for i in range(24):
         length, pack, place = lengths[i % 5], packs[i % 4], places[i % 3]
+        key = keys[i // 12]
         payload = rng.randbytes(length)
         block = seal(key, payload, pack, place)
         assert len(block) == SIZE
@@ -139,7 +138,14 @@ def check():
     # numbers, 20, 21, 495 and 496.
     assert passed == 20 + 1 + 4
 
-    # The table's small examples.
+    for key in keys:
+        check_numbers(key)
+
+
+def check_numbers(key):
+    """The table's small examples, and the order of sealing; cases_pack.py has
+    that of opening.
+    """
     payload, block = b"ABC", seal(key, b"ABC", 1, 3)
     assert number_of(seal, b"\x00", payload, 1, 3) == 1
     assert number_of(seal, key, bytes(497), 1, 3) == 5
@@ -150,7 +156,6 @@ def check():
     assert number_of(open, key, 1, 3, block[:511]) == 7
     assert number_of(open, key, 1, 4, block) == 8
 
-    # The order of sealing; cases_pack.py has that of opening.
     assert number_of(seal, b"", bytes(497), 1, 65536, 511) == 1
     assert number_of(seal, key, bytes(497), 1, 65536, 511) == 7
     assert number_of(seal, key, bytes(497), 1, 65536) == 5

@@ -11,7 +11,7 @@ import random
 
 import pack as packs
 from finding import block_count
-from hch import Refused
+from hch import KEY_LENGTHS, Refused, look_at_key
 from pack import LAST_PLACE, MOST, SIZE, number_of, plain_block, seal
 
 
@@ -33,8 +33,7 @@ def look_at(key, first, lengths, run, longest):
     is for a last place over 65,535." "11, the list is not as long as the run."
     Opening, which only writes the list, has no longest entry.
     """
-    if len(key) != 16:
-        raise Refused(1)
+    look_at_key(key)
     n = block_count(run)
     if len(lengths) != n:
         raise Refused(11)
@@ -72,10 +71,16 @@ def open_run(key, pack, first, lengths, run):
 
 
 def check():
+    """Under a key of each length."""
+    for length in KEY_LENGTHS:
+        check_under(random.Random("runs: a key").randbytes(length))
+
+
+def check_under(key):
     """That opening undoes sealing, block by block, and each number at its
     edges."""
     rng = random.Random("runs: check")
-    key, pack = rng.randbytes(16), rng.getrandbits(64)
+    pack = rng.getrandbits(64)
 
     for n, first in ((1, 0), (1, LAST_PLACE), (3, 7), (3, LAST_PLACE - 2)):
         lengths = tuple(rng.randrange(MOST + 1) for _ in range(n))
@@ -103,7 +108,7 @@ def check():
     # The numbers, alone.
     run, zeros = bytes(2 * SIZE), (0, 0)
     for call in (seal_run, open_run):
-        assert number_of(call, b"\x00", pack, 0, zeros, run) == 1
+        assert number_of(call, key[1:], pack, 0, zeros, run) == 1
         for length in (0, 1, SIZE - 1, SIZE + 1, 2 * SIZE - 1, 2 * SIZE + 1,
                        128 * SIZE - 1, 128 * SIZE + 1, 129 * SIZE):
             for n in (length // SIZE, -(-length // SIZE)):

@@ -2,31 +2,26 @@
 -- Assumes nothing.
 use Prim.Native.Nat.{ℕ}
 use mathlib.Core.Path.{_≡_, refl}
-use mathlib.Core.Bool.{true}
 use mathlib.Core.List.{List}
 use native.Mathlib.Omega.{arith}
-use borrow.Author.Tests.{eq-eqb}
 use lib.Dec.{leb}
 use lib.ListN.{length}
 use Rattle.strings.specs.Cipher.{TweakableCipher}
 use Rattle.strings.specs.One.{tally, count}
-use Rattle.primitives.specs.Aes.{isKey}
 use Rattle.primitives.proofs.Theorems as Aes
 use Rattle.hch.specs.Hch.{hch}
 use Rattle.hch.proofs.Theorems as Hch
 use Rattle.pack.specs.Theorems.{Pack}
 use Rattle.pack.proofs.Theorems as Packs
+use Rattle.claims.specs.Demand1.{IsKey}
 use Rattle.claims.specs.Demand3.{Demand3}
+use Rattle.claims.proofs.Keys.{is-key}
 
 pub hch-tweakable : (key : List ℕ) → TweakableCipher 16 512 (hch .encipher key) (hch .decipher key)
 hch-tweakable key T h = Hch.theorems .hch-cipher key T 512 h (omega arith)
 
-pub key-of-16 : (key : List ℕ) → length key ≡ 16 → hch .isKey key ≡ true
-unfolding isKey
-key-of-16 key k = eq-eqb (length key) 16 k
-
-pub hch-pack : (key : List ℕ) → length key ≡ 16 → Pack hch key
-hch-pack key k = Packs.theorems .any-cipher hch key (key-of-16 key k) (hch-tweakable key)
+pub hch-pack : (key : List ℕ) → IsKey key → Pack hch key
+hch-pack key k = Packs.theorems .any-cipher hch key (is-key key k) (hch-tweakable key)
 
 three-of-ten : count (λ v. leb 7 v) 10 ≡ 3
 unfolding tally count
@@ -45,6 +40,6 @@ demand-3 = record {
       hch-pack key k .one-block payload pack place (record { payload-bytes = b; payload-length = h; place-limit = l }) .one;
   one-block-counted = λ key payload pack place k b h l.
       hch-pack key k .one-block payload pack place (record { payload-bytes = b; payload-length = h; place-limit = l }) .counted;
-  eight = λ key pack place C k h l. hch-pack key k .eight pack place C (h .1) (key-of-16 key k) (h .0) l;
+  eight = λ key pack place C k h l. hch-pack key k .eight pack place C (h .1) (is-key key k) (h .0) l;
   three-of-ten = three-of-ten;
 }

@@ -9,4 +9,4 @@ use Rattle.claims.specs.Fips197.{Fips197}
 
 pub fips-197 : Fips197
 unfolding _⊕_ number bytes times01 timesX productN product power squares inverse bit ofBits affine sBox at state subBytes shiftRows mixed mixColumns addRoundKey rounds cipher word byteOf rotWord subWord rcon temp ownWord keyWord keyWords keyExpansion roundKey encipher aes
-fips-197 = record { last-round-key = refl; cipher-example = refl }
+fips-197 = record { last-round-key = refl; last-round-key-256 = refl; cipher-example = refl; cipher-example-256 = refl }

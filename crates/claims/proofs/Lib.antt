@@ -1,8 +1,11 @@
+pub mod Keys
 pub mod Number9
 pub mod Demand1
+pub mod Demand2
 pub mod Demand3
 pub mod Examples
 pub mod Fips197
 pub mod Point1
 pub mod Point2
+pub mod Point3
 pub mod Program

@@ -20,36 +20,38 @@ use Rattle.runs.specs.Theorems.{Runs, WithinLimits, laidOut}
 use Rattle.runs.proofs.Answers.{all-open}
 use Rattle.runs.proofs.Lists.{some-over, over-some}
 use Rattle.runs.proofs.Theorems as RunTheorems
+use Rattle.claims.specs.Demand1.{IsKey}
 use Rattle.claims.specs.Point1.{IsPack}
 use Rattle.claims.specs.Point2.{ofSealing, ofOpening, ofBlock, Lent, NoneOver, Payloads, Point2}
+use Rattle.claims.proofs.Keys.{is-key, no-key}
 use Rattle.claims.proofs.Demand1.{refused-left}
-use Rattle.claims.proofs.Demand3.{key-of-16, hch-tweakable}
+use Rattle.claims.proofs.Demand3.{hch-tweakable}
 use Rattle.claims.proofs.Point1.{blocks, is-one, not-a-pack}
 
-hch-runs : (key : List ℕ) → length key ≡ 16 → Runs hch key
-hch-runs key k = RunTheorems.theorems .any-cipher hch key (key-of-16 key k) (hch-tweakable key)
+hch-runs : (key : List ℕ) → IsKey key → Runs hch key
+hch-runs key k = RunTheorems.theorems .any-cipher hch key (is-key key k) (hch-tweakable key)
 
 -- ---- the numbers
 
-not-run-sealing : (key : List ℕ) (first : ℕ) (lengths run : List ℕ) → length key ≡ 16 → isPack run ≡ false → ofSealing key first lengths run ≡ 10
+not-run-sealing : (key : List ℕ) (first : ℕ) (lengths run : List ℕ) → IsKey key → isPack run ≡ false → ofSealing key first lengths run ≡ 10
 unfolding testsOfSealing looksAt
-not-run-sealing key first lengths run k e = rw (key-of-16 key k, e)
+not-run-sealing key first lengths run k e = rw (is-key key k, e)
 
-not-run-opening : (key : List ℕ) (pack first : ℕ) (lengths run : List ℕ) → length key ≡ 16 → isPack run ≡ false → ofOpening key pack first lengths run ≡ 10
+not-run-opening : (key : List ℕ) (pack first : ℕ) (lengths run : List ℕ) → IsKey key → isPack run ≡ false → ofOpening key pack first lengths run ≡ 10
 unfolding testsOfOpening looksAt
-not-run-opening key pack first lengths run k e = rw (key-of-16 key k, e)
+not-run-opening key pack first lengths run k e = rw (is-key key k, e)
 
-module _ (key : List ℕ) (n first : ℕ) (lengths run : List ℕ) (k : length key ≡ 16) (p : IsPack n run) where
+module _ (key : List ℕ) (n first : ℕ) (lengths run : List ℕ) (k : IsKey key) (p : IsPack n run) where
   list-differs : (length lengths ≡ n → ⊥) → length lengths ≡ length run / 512 → ⊥
   list-differs other e = other (e ∙ blocks n run p)
 
   seals-11 : (length lengths ≡ n → ⊥) → ofSealing key first lengths run ≡ 11
   unfolding testsOfSealing looksAt
-  seals-11 other = rw (key-of-16 key k, is-one n run p, ne-eqb (length lengths) (length run / 512) (list-differs other))
+  seals-11 other = rw (is-key key k, is-one n run p, ne-eqb (length lengths) (length run / 512) (list-differs other))
 
   opens-11 : (pack : ℕ) → (length lengths ≡ n → ⊥) → ofOpening key pack first lengths run ≡ 11
   unfolding testsOfOpening looksAt
-  opens-11 pack other = rw (key-of-16 key k, is-one n run p, ne-eqb (length lengths) (length run / 512) (list-differs other))
+  opens-11 pack other = rw (is-key key k, is-one n run p, ne-eqb (length lengths) (length run / 512) (list-differs other))
 
 module _ (key : List ℕ) (n first : ℕ) (lengths run : List ℕ) (l : Lent key n lengths run) where
   count : length run / 512 ≡ n
@@ -60,7 +62,7 @@ module _ (key : List ℕ) (n first : ℕ) (lengths run : List ℕ) (l : Lent key
 
   seals-5 : (i : ℕ) → 496 < getD lengths i 0 → ofSealing key first lengths run ≡ 5
   unfolding testsOfSealing looksAt
-  seals-5 i over = rw (key-of-16 key (l .0), is-one n run (l .1), eq-eqb (length lengths) (length run / 512) same-list, over-some 496 lengths i over)
+  seals-5 i over = rw (is-key key (l .0), is-one n run (l .1), eq-eqb (length lengths) (length run / 512) same-list, over-some 496 lengths i over)
 
   within : NoneOver n lengths → someOver 496 lengths ≡ false
   within none = some-over 496 lengths (λ i h. none i (omega (arith, h, l .2)))
@@ -69,26 +71,26 @@ module _ (key : List ℕ) (n first : ℕ) (lengths run : List ℕ) (l : Lent key
   unfolding testsOfSealing looksAt
   seals-6 none past =
       let far : 65535 < first + length run / 512 - 1 = rw count past in
-      rw (key-of-16 key (l .0), is-one n run (l .1), eq-eqb (length lengths) (length run / 512) same-list, within none, lt-ltb 65535 (first + length run / 512 - 1) far)
+      rw (is-key key (l .0), is-one n run (l .1), eq-eqb (length lengths) (length run / 512) same-list, within none, lt-ltb 65535 (first + length run / 512 - 1) far)
 
   sealed : NoneOver n lengths → first + n - 1 ≤ 65535 → ofSealing key first lengths run ≡ 0
   unfolding testsOfSealing looksAt
   sealed none last =
       let near : first + length run / 512 - 1 ≤ 65535 = rw count last in
-      rw (key-of-16 key (l .0), is-one n run (l .1), eq-eqb (length lengths) (length run / 512) same-list, within none, le-ltb 65535 (first + length run / 512 - 1) near)
+      rw (is-key key (l .0), is-one n run (l .1), eq-eqb (length lengths) (length run / 512) same-list, within none, le-ltb 65535 (first + length run / 512 - 1) near)
 
   opens-6 : (pack : ℕ) → 65535 < first + n - 1 → ofOpening key pack first lengths run ≡ 6
   unfolding testsOfOpening looksAt
   opens-6 pack past =
       let far : 65535 < first + length run / 512 - 1 = rw count past in
-      rw (key-of-16 key (l .0), is-one n run (l .1), eq-eqb (length lengths) (length run / 512) same-list, lt-ltb 65535 (first + length run / 512 - 1) far)
+      rw (is-key key (l .0), is-one n run (l .1), eq-eqb (length lengths) (length run / 512) same-list, lt-ltb 65535 (first + length run / 512 - 1) far)
 
   opened : (pack : ℕ) → first + n - 1 ≤ 65535 → ((i : ℕ) → i < n → ofBlock key pack first run i ≡ 0) → ofOpening key pack first lengths run ≡ 0
   unfolding testsOfOpening looksAt
   opened pack last each =
       let near : first + length run / 512 - 1 ≤ 65535 = rw count last in
       rw (
-        key-of-16 key (l .0),
+        is-key key (l .0),
         is-one n run (l .1),
         eq-eqb (length lengths) (length run / 512) same-list,
         le-ltb 65535 (first + length run / 512 - 1) near,
@@ -126,22 +128,22 @@ unfolding testsOfSealing testsOfOpening looksAt isPack isKey someOver
 numbers = (refl, refl, refl, refl, refl, refl)
 
 pub point-2 : Point2
-unfolding testsOfSealing testsOfOpening looksAt isKey
+unfolding testsOfSealing testsOfOpening looksAt
 point-2 = record {
-  seal-1 = λ key first lengths run k. rw (ne-eqb _ 16 k);
+  seal-1 = λ key first lengths run k. rw (no-key key k);
   seal-10 = λ key first lengths run k none. not-run-sealing key first lengths run k (not-a-pack run (isPack run) refl none);
   seal-11 = λ key n first lengths run k p. seals-11 key n first lengths run k p;
   seal-5 = λ key n first lengths run l i h. seals-5 key n first lengths run l i;
   seal-6 = seals-6;
   seal-done = sealed;
-  open-1 = λ key pack first lengths run k. rw (ne-eqb _ 16 k);
+  open-1 = λ key pack first lengths run k. rw (no-key key k);
   open-10 = λ key pack first lengths run k none. not-run-opening key pack first lengths run k (not-a-pack run (isPack run) refl none);
   open-11 = λ key n pack first lengths run k p. opens-11 key n first lengths run k p pack;
   open-6 = λ key n pack first lengths run l. opens-6 key n first lengths run l pack;
   open-8 = λ key n pack first lengths run l b last i h.
       let c = count key n first lengths run l in
       let near : first + length run / 512 - 1 ≤ 65535 = rw c last in
-      let told = hch-runs key (l .0) .eight pack first lengths run b (key-of-16 key (l .0)) (is-one n run (l .1)) (same-list key n first lengths run l) near i (rw c h) in
+      let told = hch-runs key (l .0) .eight pack first lengths run b (is-key key (l .0)) (is-one n run (l .1)) (same-list key n first lengths run l) near i (rw c h) in
       (λ e place. told .0 (e, place), λ none before. told .1 (none, before));
   open-done = λ key n pack first lengths run l. opened key n first lengths run l pack;
   unopened-left = λ key pack first lengths run h. (refused-left (ofOpening key pack first lengths run) _ run h, refused-left (ofOpening key pack first lengths run) _ lengths h);

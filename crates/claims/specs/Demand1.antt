@@ -5,6 +5,7 @@ use Prim.Native.Nat.{ℕ, _≤_, _<_}
 use mathlib.Core.Path.{_≡_}
 use mathlib.Core.Bool.{true, false}
 use mathlib.Core.List.{List, [], _∷_}
+use mathlib.Core.Logic.{_⊎_}
 use lib.ListN.{length}
 use Rattle.strings.specs.Call.{refusalNumber, numberOf, valuesOf, leftBy}
 use Rattle.strings.specs.declared.refusal.Refusal.{Refusal}
@@ -16,6 +17,10 @@ use Rattle.pack.specs.Sealing.{answerOf as answerOfSealing}
 use Rattle.pack.specs.Opening.{numberOf as numberOfOpening, valuesOf as valuesOfOpening, decipheredBlock, answerOf as answerOfOpening}
 use Rattle.line.specs.Line.{Encipher, Decipher, Unknown, requestOf, refusal, reply, answer}
 use Rattle.pack.specs.declared.opening.Opened.the-variants.{Refused as NotOpened}
+
+-- A key has 16 bytes, or, by Point 3 of 02, 32.
+abbrev pub IsKey : List ℕ → Type 0
+IsKey key = (length key ≡ 16) ⊎ (length key ≡ 32)
 
 -- The number of each call; enciphering and deciphering have the same.
 abbrev pub ofHch : (key tweak message : List ℕ) → ℕ
@@ -29,45 +34,45 @@ ofOpening key pack place block = numberOfOpening (answerOfOpening hch key pack p
 
 pub record Demand1 : Type 0 where
   -- ---- "HCH looks at 1, 2, 3, 4 in this order": a number does not go by what is looked at after it.
-  -- 1: key not 16 bytes.
-  pub hch-1 : (key tweak message : List ℕ) → (length key ≡ 16 → ⊥) → ofHch key tweak message ≡ 1
+  -- 1: key not 16 or 32 bytes.
+  pub hch-1 : (key tweak message : List ℕ) → (IsKey key → ⊥) → ofHch key tweak message ≡ 1
   -- 2: tweak not 16 bytes.
-  pub hch-2 : (key tweak message : List ℕ) → length key ≡ 16 → (length tweak ≡ 16 → ⊥) → ofHch key tweak message ≡ 2
+  pub hch-2 : (key tweak message : List ℕ) → IsKey key → (length tweak ≡ 16 → ⊥) → ofHch key tweak message ≡ 2
   -- 3: data under 16 bytes.
-  pub hch-3 : (key tweak message : List ℕ) → length key ≡ 16 → length tweak ≡ 16 → length message < 16 → ofHch key tweak message ≡ 3
+  pub hch-3 : (key tweak message : List ℕ) → IsKey key → length tweak ≡ 16 → length message < 16 → ofHch key tweak message ≡ 3
   -- 4: data over 4,096 bytes.
-  pub hch-4 : (key tweak message : List ℕ) → length key ≡ 16 → length tweak ≡ 16 → 4096 < length message → ofHch key tweak message ≡ 4
+  pub hch-4 : (key tweak message : List ℕ) → IsKey key → length tweak ≡ 16 → 4096 < length message → ofHch key tweak message ≡ 4
   -- Else the work is done: 16 bytes and 4,096 bytes are enciphered.
-  pub hch-done : (key tweak message : List ℕ) → length key ≡ 16 → length tweak ≡ 16 → 16 ≤ length message → length message ≤ 4096
+  pub hch-done : (key tweak message : List ℕ) → IsKey key → length tweak ≡ 16 → 16 ≤ length message → length message ≤ 4096
       → ofHch key tweak message ≡ 0
   -- 17 bytes has a last block of 1 byte.
   pub hch-17 : (message : List ℕ) → length message ≡ 17 → length (behindFirst message) ≡ 1
   -- ---- "Sealing looks at 1, 7, 5, 6".
   -- 1, as above.
-  pub seal-1 : (key payload : List ℕ) (place : ℕ) (block : List ℕ) → (length key ≡ 16 → ⊥) → ofSealing key payload place block ≡ 1
+  pub seal-1 : (key payload : List ℕ) (place : ℕ) (block : List ℕ) → (IsKey key → ⊥) → ofSealing key payload place block ≡ 1
   -- 7: lent block not 512 bytes.
-  pub seal-7 : (key payload : List ℕ) (place : ℕ) (block : List ℕ) → length key ≡ 16 → (length block ≡ 512 → ⊥) → ofSealing key payload place block ≡ 7
+  pub seal-7 : (key payload : List ℕ) (place : ℕ) (block : List ℕ) → IsKey key → (length block ≡ 512 → ⊥) → ofSealing key payload place block ≡ 7
   -- 5: payload over 496 bytes.
-  pub seal-5 : (key payload : List ℕ) (place : ℕ) (block : List ℕ) → length key ≡ 16 → length block ≡ 512 → 496 < length payload
+  pub seal-5 : (key payload : List ℕ) (place : ℕ) (block : List ℕ) → IsKey key → length block ≡ 512 → 496 < length payload
       → ofSealing key payload place block ≡ 5
   -- 6: place over 65,535.
-  pub seal-6 : (key payload : List ℕ) (place : ℕ) (block : List ℕ) → length key ≡ 16 → length block ≡ 512 → length payload ≤ 496 → 65535 < place
+  pub seal-6 : (key payload : List ℕ) (place : ℕ) (block : List ℕ) → IsKey key → length block ≡ 512 → length payload ≤ 496 → 65535 < place
       → ofSealing key payload place block ≡ 6
   -- Else the work is done: payloads of 0 and 496 bytes are sealed, and place 65,535 is.
-  pub seal-done : (key payload : List ℕ) (place : ℕ) (block : List ℕ) → length key ≡ 16 → length block ≡ 512 → length payload ≤ 496 → place ≤ 65535
+  pub seal-done : (key payload : List ℕ) (place : ℕ) (block : List ℕ) → IsKey key → length block ≡ 512 → length payload ≤ 496 → place ≤ 65535
       → ofSealing key payload place block ≡ 0
   -- ---- "Opening looks at 1, 7, 6, 8".
   -- 1, as above.
-  pub open-1 : (key : List ℕ) (pack place : ℕ) (block : List ℕ) → (length key ≡ 16 → ⊥) → ofOpening key pack place block ≡ 1
+  pub open-1 : (key : List ℕ) (pack place : ℕ) (block : List ℕ) → (IsKey key → ⊥) → ofOpening key pack place block ≡ 1
   -- 7, as above.
-  pub open-7 : (key : List ℕ) (pack place : ℕ) (block : List ℕ) → length key ≡ 16 → (length block ≡ 512 → ⊥) → ofOpening key pack place block ≡ 7
+  pub open-7 : (key : List ℕ) (pack place : ℕ) (block : List ℕ) → IsKey key → (length block ≡ 512 → ⊥) → ofOpening key pack place block ≡ 7
   -- 6, as above.
-  pub open-6 : (key : List ℕ) (pack place : ℕ) (block : List ℕ) → length key ≡ 16 → length block ≡ 512 → 65535 < place → ofOpening key pack place block ≡ 6
+  pub open-6 : (key : List ℕ) (pack place : ℕ) (block : List ℕ) → IsKey key → length block ≡ 512 → 65535 < place → ofOpening key pack place block ≡ 6
   -- 8: opened block fails its check.
-  pub open-8 : (key : List ℕ) (pack place : ℕ) (block : List ℕ) → length key ≡ 16 → length block ≡ 512 → place ≤ 65535
+  pub open-8 : (key : List ℕ) (pack place : ℕ) (block : List ℕ) → IsKey key → length block ≡ 512 → place ≤ 65535
       → passes pack place (decipheredBlock hch key pack place block) ≡ false → ofOpening key pack place block ≡ 8
   -- Else the work is done, and u is returned beside the number.
-  pub open-done : (key : List ℕ) (pack place : ℕ) (block : List ℕ) → length key ≡ 16 → length block ≡ 512 → place ≤ 65535
+  pub open-done : (key : List ℕ) (pack place : ℕ) (block : List ℕ) → IsKey key → length block ≡ 512 → place ≤ 65535
       → passes pack place (decipheredBlock hch key pack place block) ≡ true
       → (ofOpening key pack place block ≡ 0) × (valuesOfOpening (answerOfOpening hch key pack place block) ≡ used (decipheredBlock hch key pack place block) ∷ [])
   -- ---- "Numbers 1 to 8 come from the library and 9 from the program".

@@ -1,7 +1,9 @@
 pub mod Demand1
+pub mod Demand2
 pub mod Demand3
 pub mod Examples
 pub mod Fips197
 pub mod Point1
 pub mod Point2
+pub mod Point3
 pub mod Program

@@ -11,6 +11,7 @@ use Rattle.layout.specs.Finding.{parts, withPart, answerOf, found, address, Beg
 use Rattle.hch.specs.Hch.{hch}
 use Rattle.pack.specs.Sealing.{seal}
 use Rattle.pack.specs.Opening.{opensTo}
+use Rattle.claims.specs.Demand1.{IsKey}
 
 -- The number of a find, 0 where the block is found.
 abbrev pub ofFinding : (place : ℕ) (pack : List ℕ) → ℕ
@@ -51,9 +52,9 @@ pub record Point1 : Type 0 where
   pub others-found : (n place other : ℕ) (block pack : List ℕ) → IsPack n pack → place < n → length block ≡ 512 → (other ≡ place → ⊥)
       → found other (withPart place block pack) ≡ found other pack
   -- So what is sealed into the part of a place is opened there, and every other part opens, under every key, number and place, to what it opened to before.
-  pub opened-in-place : (n : ℕ) (key payload : List ℕ) (number place : ℕ) (pack : List ℕ) → length key ≡ 16 → Bytes payload → length payload ≤ 496
+  pub opened-in-place : (n : ℕ) (key payload : List ℕ) (number place : ℕ) (pack : List ℕ) → IsKey key → Bytes payload → length payload ≤ 496
       → IsPack n pack → place < n → opensTo hch key payload number place (found place (withPart place (seal hch key payload number place) pack)) ≡ true
-  pub others-in-place : (n : ℕ) (key payload : List ℕ) (number place : ℕ) (pack : List ℕ) → length key ≡ 16 → Bytes payload → length payload ≤ 496
+  pub others-in-place : (n : ℕ) (key payload : List ℕ) (number place : ℕ) (pack : List ℕ) → IsKey key → Bytes payload → length payload ≤ 496
       → IsPack n pack → place < n → (other : ℕ) → (other ≡ place → ⊥) → (key′ payload′ : List ℕ) (number′ place′ : ℕ)
       → opensTo hch key′ payload′ number′ place′ (found other (withPart place (seal hch key payload number place) pack))
       ≡ opensTo hch key′ payload′ number′ place′ (found other pack)

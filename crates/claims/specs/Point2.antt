@@ -16,6 +16,7 @@ use Rattle.runs.specs.Sealing.{sealedRun, answerOf as answerOfSealing}
 use Rattle.runs.specs.Opening.{numberOf as numberOfOpening, valuesOf, failedPlace, decipheredRun, usedLengths, lengthsOf, answerOf as answerOfOpening, runLeft, listLeft, opensTo}
 use Rattle.runs.specs.Theorems.{Runs}
 use Rattle.runs.specs.declared.opening.RunOpened.the-variants.{Done, Refused, Failed}
+use Rattle.claims.specs.Demand1.{IsKey}
 use Rattle.claims.specs.Point1.{IsPack}
 
 -- The number of each call, and that of the one-block call for block i.
@@ -28,9 +29,9 @@ ofOpening key pack first lengths run = numberOfOpening (answerOfOpening hch key 
 abbrev pub ofBlock : (key : List ℕ) (pack first : ℕ) (run : List ℕ) (i : ℕ) → ℕ
 ofBlock key pack first run i = numberOfBlock (answerOfBlockOpening hch key pack (first + i) (part i run))
 
--- What is lent passes the tests up to number 11: a key of 16 bytes, n blocks, and a list as long.
+-- What is lent passes the tests up to number 11: a key, n blocks, and a list as long.
 abbrev pub Lent : (key : List ℕ) (n : ℕ) (lengths run : List ℕ) → Type 0
-Lent key n lengths run = (length key ≡ 16) × IsPack n run × (length lengths ≡ n)
+Lent key n lengths run = IsKey key × IsPack n run × (length lengths ≡ n)
 
 -- No entry of a list of n lengths is over 496.
 abbrev pub NoneOver : (n : ℕ) (lengths : List ℕ) → Type 0
@@ -47,12 +48,12 @@ Payloads n payload first =
 
 pub record Point2 : Type 0 where
   -- ---- "Sealing looks at 1, 10, 11, 5, 6": a number does not go by what is looked at after it.
-  -- 1: key not 16 bytes.
-  pub seal-1 : (key : List ℕ) (first : ℕ) (lengths run : List ℕ) → (length key ≡ 16 → ⊥) → ofSealing key first lengths run ≡ 1
+  -- 1: key not 16 or 32 bytes.
+  pub seal-1 : (key : List ℕ) (first : ℕ) (lengths run : List ℕ) → (IsKey key → ⊥) → ofSealing key first lengths run ≡ 1
   -- 10: the run is not 1 to 128 whole blocks.
-  pub seal-10 : (key : List ℕ) (first : ℕ) (lengths run : List ℕ) → length key ≡ 16 → ((n : ℕ) → IsPack n run → ⊥) → ofSealing key first lengths run ≡ 10
+  pub seal-10 : (key : List ℕ) (first : ℕ) (lengths run : List ℕ) → IsKey key → ((n : ℕ) → IsPack n run → ⊥) → ofSealing key first lengths run ≡ 10
   -- "11, the list is not as long as the run".
-  pub seal-11 : (key : List ℕ) (n first : ℕ) (lengths run : List ℕ) → length key ≡ 16 → IsPack n run → (length lengths ≡ n → ⊥) → ofSealing key first lengths run ≡ 11
+  pub seal-11 : (key : List ℕ) (n first : ℕ) (lengths run : List ℕ) → IsKey key → IsPack n run → (length lengths ≡ n → ⊥) → ofSealing key first lengths run ≡ 11
   -- 5: an entry of the list is over 496.
   pub seal-5 : (key : List ℕ) (n first : ℕ) (lengths run : List ℕ) → Lent key n lengths run → (i : ℕ) → i < n → 496 < getD lengths i 0
       → ofSealing key first lengths run ≡ 5
@@ -64,9 +65,9 @@ pub record Point2 : Type 0 where
       → first + n - 1 ≤ 65535 → ofSealing key first lengths run ≡ 0
   -- ---- "opening at 1, 10, 11, 6, 8".
   -- 1, 10, 11 and 6, as above.
-  pub open-1 : (key : List ℕ) (pack first : ℕ) (lengths run : List ℕ) → (length key ≡ 16 → ⊥) → ofOpening key pack first lengths run ≡ 1
-  pub open-10 : (key : List ℕ) (pack first : ℕ) (lengths run : List ℕ) → length key ≡ 16 → ((n : ℕ) → IsPack n run → ⊥) → ofOpening key pack first lengths run ≡ 10
-  pub open-11 : (key : List ℕ) (n pack first : ℕ) (lengths run : List ℕ) → length key ≡ 16 → IsPack n run → (length lengths ≡ n → ⊥)
+  pub open-1 : (key : List ℕ) (pack first : ℕ) (lengths run : List ℕ) → (IsKey key → ⊥) → ofOpening key pack first lengths run ≡ 1
+  pub open-10 : (key : List ℕ) (pack first : ℕ) (lengths run : List ℕ) → IsKey key → ((n : ℕ) → IsPack n run → ⊥) → ofOpening key pack first lengths run ≡ 10
+  pub open-11 : (key : List ℕ) (n pack first : ℕ) (lengths run : List ℕ) → IsKey key → IsPack n run → (length lengths ≡ n → ⊥)
       → ofOpening key pack first lengths run ≡ 11
   pub open-6 : (key : List ℕ) (n pack first : ℕ) (lengths run : List ℕ) → Lent key n lengths run → 65535 < first + n - 1
       → ofOpening key pack first lengths run ≡ 6
@@ -91,40 +92,40 @@ pub record Point2 : Type 0 where
   -- An order of n blocks has each number below n once: 2, 0, 1 is one of three.
   pub an-order : OrderOf 3 (2 ∷ 0 ∷ 1 ∷ [])
   -- "each payload stands at the front of its block, as long as the list says": where sealing a run is done, sealing each payload into its block is.
-  pub sealed-each : (key : List ℕ) (first : ℕ) (lengths run : List ℕ) → length key ≡ 16 → ofSealing key first lengths run ≡ 0 → (i : ℕ) → i < blockCount run
+  pub sealed-each : (key : List ℕ) (first : ℕ) (lengths run : List ℕ) → IsKey key → ofSealing key first lengths run ≡ 0 → (i : ℕ) → i < blockCount run
       → numberOf (answerOfBlockSealing hch key (take (getD lengths i 0) (part i run)) (first + i) (part i run)) ≡ 0
   -- And the run is what these calls leave, in any order of the blocks.
-  pub sealed-one-by-one : (key : List ℕ) (pack first : ℕ) (lengths run : List ℕ) → length key ≡ 16 → Bytes run
+  pub sealed-one-by-one : (key : List ℕ) (pack first : ℕ) (lengths run : List ℕ) → IsKey key → Bytes run
       → ofSealing key first lengths run ≡ 0 → (order : List ℕ) → OrderOf (blockCount run) order
       → oneByOne (λ i B. let payload = take (getD lengths i 0) B in
       leftBy (numberOf (answerOfBlockSealing hch key payload (first + i) B)) (seal hch key payload pack (first + i)) B) order run
       ≡ sealedRun hch key pack first lengths run
   -- Where opening a run is done, opening each block is, and the list has the length that it returns.
-  pub opened-each : (key : List ℕ) (pack first : ℕ) (lengths run : List ℕ) → length key ≡ 16 → Bytes run
+  pub opened-each : (key : List ℕ) (pack first : ℕ) (lengths run : List ℕ) → IsKey key → Bytes run
       → ofOpening key pack first lengths run ≡ 0 → (i : ℕ) → i < blockCount run
       → (ofBlock key pack first run i ≡ 0)
       × (valuesOfBlock (answerOfBlockOpening hch key pack (first + i) (part i run)) ≡ getD (usedLengths hch key pack first run) i 0 ∷ [])
   -- And the run is what these calls leave, in any order of the blocks.
-  pub opened-one-by-one : (key : List ℕ) (pack first : ℕ) (lengths run : List ℕ) → length key ≡ 16 → Bytes run
+  pub opened-one-by-one : (key : List ℕ) (pack first : ℕ) (lengths run : List ℕ) → IsKey key → Bytes run
       → ofOpening key pack first lengths run ≡ 0 → (order : List ℕ) → OrderOf (blockCount run) order
       → oneByOne (λ i C. leftBy (numberOfBlock (answerOfBlockOpening hch key pack (first + i) C)) (decipheredBlock hch key pack (first + i) C) C) order run
       ≡ decipheredRun hch key pack first run
   -- ---- "If a run opens, and still opens after one block's bytes are changed, that change does not alter what the others open to."
-  pub others-open : (key : List ℕ) (pack first : ℕ) (lengths run : List ℕ) → length key ≡ 16 → Bytes run → ofOpening key pack first lengths run ≡ 0
+  pub others-open : (key : List ℕ) (pack first : ℕ) (lengths run : List ℕ) → IsKey key → Bytes run → ofOpening key pack first lengths run ≡ 0
       → (i : ℕ) (block : List ℕ) → i < blockCount run → length block ≡ 512 → Bytes block
       → ofOpening key pack first lengths (withPart i block run) ≡ 0 → (j : ℕ) → j < blockCount run → (j ≡ i → ⊥)
       → (part j (runLeft hch key pack first lengths (withPart i block run)) ≡ part j (runLeft hch key pack first lengths run))
       × (getD (listLeft hch key pack first lengths (withPart i block run)) j 0 ≡ getD (listLeft hch key pack first lengths run) j 0)
   -- ---- "The counting rule of demand 3 now also speaks of runs of a stated number of blocks."
   -- Exactly one run of n blocks opens to n payloads, a pack and a first place: the one that sealing writes, whatever the run held behind the payloads.
-  pub one-run : (key : List ℕ) (n : ℕ) (payload : ℕ → List ℕ) (pack first : ℕ) → length key ≡ 16 → Payloads n payload first
+  pub one-run : (key : List ℕ) (n : ℕ) (payload : ℕ → List ℕ) (pack first : ℕ) → IsKey key → Payloads n payload first
       → (run : List ℕ) → length run ≡ 512 * n → ((i : ℕ) → i < n → take (length (payload i)) (part i run) ≡ payload i)
       → ExactlyOne (OfLength (512 * n)) (opensTo hch key n payload pack first) (sealedRun hch key pack first (lengthsOf payload n) run)
   -- Counted over all runs of n blocks, there is 1.
-  pub one-run-counted : (key : List ℕ) (n : ℕ) (payload : ℕ → List ℕ) (pack first : ℕ) → length key ≡ 16 → Payloads n payload first
+  pub one-run-counted : (key : List ℕ) (n : ℕ) (payload : ℕ → List ℕ) (pack first : ℕ) → IsKey key → Payloads n payload first
       → count (λ v. opensTo hch key n payload pack first (bytes (512 * n) v)) (256 ^ (512 * n)) ≡ 1
   -- ---- The theorem on runs, over any tweakable cipher of 512 bytes, holds for HCH.
-  pub hch-runs : (key : List ℕ) → length key ≡ 16 → Runs hch key
+  pub hch-runs : (key : List ℕ) → IsKey key → Runs hch key
   -- ---- Examples. Nothing at all is no run; two blocks have no list of one length; 497 is refused, and a last place of 65,536; so is a first place at the top of
   -- 32 bits.
   pub numbers : let key : List ℕ = replicate 16 0 in

@@ -16,8 +16,8 @@ use Rattle.blocks.specs.Counter.{masked}
 use Rattle.strings.specs.One.{OnePreimage}
 use Rattle.strings.specs.Cipher.{Cipher}
 use Rattle.blocks.specs.BlockCipher.{BlockCipher, BlockPermutation}
-use Rattle.primitives.specs.Aes.{Nr, aes}
-use Rattle.primitives.specs.Expanded.{under}
+use Rattle.primitives.specs.Aes.{aes}
+use Rattle.primitives.specs.Expanded.{roundsDone, under}
 use Rattle.primitives.specs.declared.aes.ExpandedKey.{ExpandedKey}
 use Rattle.strings.proofs.Xor.{xor-zero, xor-comm}
 use Rattle.strings.proofs.Bytes.{number-below}
@@ -47,7 +47,7 @@ by-cipher c p tweak n h l = scheme-cipher (own-parts c p) (number tweak) n (twea
 
 pub under-cipher : (expanded : ExpandedKey) (tweak : List ℕ) (n : ℕ) → OfLength 16 tweak → 16 ≤ n
     → Cipher n (encipheredBy (under expanded) tweak) (decipheredBy (under expanded) tweak)
-under-cipher expanded = by-cipher (under expanded) (Aes.theorems .words-permutation (Nr 4) (expanded .words))
+under-cipher expanded = by-cipher (under expanded) (Aes.theorems .words-permutation (roundsDone (expanded .rounds)) (expanded .words))
 
 pub hch-cipher : (key tweak : List ℕ) (n : ℕ) → OfLength 16 tweak → 16 ≤ n → Cipher n (enciphered key tweak) (deciphered key tweak)
 unfolding enciphered deciphered

@@ -4,6 +4,7 @@ pub mod Words
 pub mod Substitution
 pub mod Columns
 pub mod Rounds
+pub mod Expanded
 pub mod Mixing
 pub mod Examples
 pub mod Theorems

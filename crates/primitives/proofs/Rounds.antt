@@ -8,7 +8,7 @@ use Rattle.strings.specs.Xor.{_⊕_}
 use Rattle.strings.specs.Cipher.{Permutation}
 use Rattle.blocks.specs.Blocks.{IsBlock}
 use Rattle.blocks.specs.BlockCipher.{BlockPermutation}
-use Rattle.primitives.specs.Aes.{Byte, State, at, state, sBox, invSBox, subBytes, invSubBytes, shiftRows, invShiftRows, mixed, invMixed, mixColumns, invMixColumns, addRoundKey, rounds, invRounds, cipher, invCipher, byteOf, roundKey, encipher, decipher, Nr, keyExpansion, aes}
+use Rattle.primitives.specs.Aes.{Byte, State, at, state, sBox, invSBox, subBytes, invSubBytes, shiftRows, invShiftRows, mixed, invMixed, mixColumns, invMixColumns, addRoundKey, rounds, invRounds, cipher, invCipher, byteOf, roundKey, encipher, decipher, Nr, keyExpansion, NkOf, aes}
 use Rattle.strings.proofs.Xor.{xor-below, xor-cancel-right}
 use Rattle.strings.proofs.Bytes.{bytes-below}
 use Rattle.strings.proofs.Table.{table-below, is-table}
@@ -113,4 +113,4 @@ module _ (boxes : Permutation Byte sBox invSBox) where
 
   pub aes-permutation : (key : List ℕ) → BlockPermutation (aes key)
   unfolding aes
-  aes-permutation key = block-permutation (Nr 4) (keyExpansion 4 key)
+  aes-permutation key = block-permutation (Nr (NkOf key)) (keyExpansion (NkOf key) key)

@@ -5,6 +5,7 @@ use Rattle.polynomials.proofs.Modulo.{product-reduced}
 use Rattle.primitives.proofs.Inverse.{inverse-zero, inverse-product}
 use Rattle.primitives.proofs.Substitution.{sbox-permutation}
 use Rattle.primitives.proofs.Rounds as Rounds
+use Rattle.primitives.proofs.Expanded.{expanded-aes}
 
 pub theorems : Theorems
 theorems = record {
@@ -19,4 +20,5 @@ theorems = record {
   cipher-permutation = Rounds.cipher-permutation sbox-permutation;
   words-permutation = Rounds.block-permutation sbox-permutation;
   aes-permutation = Rounds.aes-permutation sbox-permutation;
+  expanded-aes = expanded-aes;
 }

@@ -2,17 +2,18 @@
 -- Assumes nothing.
 use Prim.Native.Nat.{ℕ, zero, suc, _+_, _-_, _*_, _/_, _%_, _^_, _≤_, _<_}
 use mathlib.Core.Path.{_≡_, refl, sym, ap, _∙_}
-use mathlib.Core.List.{List, [], _∷_}
-use mathlib.Core.Logic.{_⊎_, inl, inr, ⊎-elim}
-use native.Mathlib.Nat.{add-zero, zero-add, add-assoc, mod-eq-of-lt, lt-of-lt-of-le, eq-or-lt-of-le, eq-zero-or-pos, le-of-suc-le-suc, not-suc-le-zero}
+use mathlib.Core.Bool.{_&&_}
+use mathlib.Core.List.{List, [], _∷_, _++_, append-assoc}
+use native.Mathlib.Nat.{add-zero, zero-add, add-assoc, mul-zero, mul-le-mul-left, mul-add-div, mul-add-mod-self-left, div-eq-of-lt, mod-eq-of-lt, lt-of-lt-of-le, lt-of-not-le, le-of-suc-le-suc, not-suc-le-zero}
 use native.Mathlib.Omega.{arith}
-use borrow.Author.Tests.{lt-ltb, le-ltb, eq-eqb, ne-eqb}
-use lib.ListN.{length, getD, drop, length-append, List·getD-append}
-use lib.Seq.{getD-at, getD-drop, drop-drop}
+use borrow.Author.Tests.{lt-ltb, le-ltb}
+use lib.Dec.{ltb, eqb}
+use lib.ListN.{length, getD, set, drop, replicate, length-append, length-replicate, List·getD-append}
+use lib.Seq.{getD-drop, drop-drop, set-at}
 use Rattle.strings.specs.Xor.{_⊕_, xorBytes}
 use Rattle.strings.specs.Bytes.{Bytes, number, bytes}
 use Rattle.blocks.specs.Field.{power}
-use Rattle.primitives.specs.Aes.{_•_, sBox, word, byteOf, rotWord, subWord, rcon, temp, ownWord, keyWord, keyWords}
+use Rattle.primitives.specs.Aes.{_•_, sBox, word, byteOf, rotWord, subWord, rcon, choose, temp, ownWord, keyWord, keyWords}
 use Rattle.strings.specs.Inner.{padded}
 use Rattle.strings.proofs.Xor.{xor-zero}
 use Rattle.strings.proofs.Bytes.{length-bytes, bytes-below, bytes-number, bytes-xor}
@@ -48,10 +49,6 @@ pub rot-bytes : (w : ℕ) → bytes 4 (rotWord w) ≡ byteOf w 1 ∷ byteOf w 2 
 unfolding rotWord word
 rot-bytes w = word-bytes (byteOf w 1) (byteOf w 2) (byteOf w 3) (byteOf w 0) (byteOf-below w 1) (byteOf-below w 2) (byteOf-below w 3) (byteOf-below w 0)
 
-pub sub-rot : (w : ℕ) → subWord (rotWord w) ≡ word (sBox (byteOf w 1)) (sBox (byteOf w 2)) (sBox (byteOf w 3)) (sBox (byteOf w 0))
-unfolding subWord byteOf
-sub-rot w = ap (λ (s : List ℕ). word (sBox (getD s 0 0)) (sBox (getD s 1 0)) (sBox (getD s 2 0)) (sBox (getD s 3 0))) (rot-bytes w)
-
 -- The four bytes from place 4 i on are word i of the key itself.
 module _ (i : ℕ) (s : List ℕ) (h : Bytes s) where
   four-fit : number (padded 4 (drop (4 * i) s)) < 256 ^ 4
@@ -84,53 +81,54 @@ pub constant : {n : ℕ} {t : List ℕ} → t ≡ doubles n 1 → (j : ℕ) → 
 unfolding power
 constant {n} e j l = rw e (rw zero-add at (doubled n 0 j l))
 
--- What is added to the word Nk places back, in the middle of Nk words and at the first of them.
-module _ (Nk i t : ℕ) where
-  pub temp-middle : Nk ≤ 6 → 0 < i % Nk → temp Nk i t ≡ t
-  unfolding temp
-  temp-middle small m = rw (ne-eqb (i % Nk) 0 (λ e. omega arith), le-ltb 6 Nk small)
+-- What is added to the word Nk places back to give the word Nk * j + m.
+pub temp-place : (Nk j m t : ℕ) → m < Nk
+    → temp Nk (Nk * j + m) t ≡ choose (eqb m 0) (subWord (rotWord t) ⊕ rcon j) (choose (ltb 6 Nk && eqb m 4) (subWord t) t)
+unfolding temp
+temp-place Nk j m t h =
+    let pos : 0 < Nk = omega arith in
+    let rest : (Nk * j + m) % Nk ≡ m = mul-add-mod-self-left Nk j m ∙ mod-eq-of-lt h in
+    let whole : (Nk * j + m) / Nk ≡ j = mul-add-div pos j m ∙ ap (λ (q : ℕ). j + q) (div-eq-of-lt h) ∙ add-zero j in
+    rw (rest, whole)
 
-  pub temp-first : i % Nk ≡ 0 → temp Nk i t ≡ subWord (rotWord t) ⊕ rcon (i / Nk)
-  unfolding temp
-  temp-first z = rw (eq-eqb (i % Nk) 0 z)
-
--- Word i of a key: the key's own, or one of those that follow.
-module _ (Nk : ℕ) (key : List ℕ) (i : ℕ) (w : List ℕ) where
-  pub own-word : i < Nk → keyWord Nk key i w ≡ ownWord key i
-  unfolding keyWord
-  own-word h = rw (lt-ltb i Nk h)
-
-  pub next-word : Nk ≤ i → keyWord Nk key i w ≡ getD w (i - Nk) 0 ⊕ temp Nk i (getD w (i - 1) 0)
-  unfolding keyWord
-  next-word h = rw (le-ltb i Nk h)
-
--- The words one after the other, and each from those before it.
-pub length-keyWords : (Nk : ℕ) (key : List ℕ) (n : ℕ) → length (keyWords Nk key n) ≡ n
+-- The words of a key one after the other, in an array of n with zeros behind them.
+pub length-keyWords : (Nk : ℕ) (key : List ℕ) (i : ℕ) → length (keyWords Nk key i) ≡ i
 unfolding keyWords
 length-keyWords Nk key zero = refl
-length-keyWords Nk key (suc n) = rw (length-append, length-keyWords Nk key n) (omega arith)
+length-keyWords Nk key (suc i) = rw (length-append, length-keyWords Nk key i) (omega arith)
 
-keyWords-at : (Nk : ℕ) (key : List ℕ) (n i : ℕ) → i < n → getD (keyWords Nk key n) i 0 ≡ keyWord Nk key i (keyWords Nk key i)
-unfolding keyWords
-keyWords-at Nk key zero i h = absurd (not-suc-le-zero h)
-keyWords-at Nk key (suc n) i h =
-    let len = length-keyWords Nk key n in
-    ⊎-elim
-    (λ (e : i ≡ n). rw e (getD-at (keyWords Nk key n) (keyWord Nk key n (keyWords Nk key n)) [] 0 n len))
-    (λ (l : i < n). List·getD-append (keyWords Nk key n) (keyWord Nk key n (keyWords Nk key n) ∷ []) 0 i (rw len l) ∙ keyWords-at Nk key n i l)
-    (eq-or-lt-of-le (le-of-suc-le-suc h))
+abbrev pub Held : (n Nk : ℕ) → List ℕ → (i : ℕ) → List ℕ → Type 0
+Held n Nk key i words = words ≡ keyWords Nk key i ++ replicate (n - i) 0
 
--- A word is settled by those before it.
-keyWord-same : (Nk : ℕ) (key : List ℕ) (i : ℕ) (v w : List ℕ) → 0 < Nk → ((j : ℕ) → j < i → getD v j 0 ≡ getD w j 0) → keyWord Nk key i v ≡ keyWord Nk key i w
-keyWord-same Nk key i v w pos same =
-    ⊎-elim
-    (λ (l : i < Nk). own-word Nk key i v l ∙ sym (own-word Nk key i w l))
-    (λ (h : Nk ≤ i). rw (next-word Nk key i v h, next-word Nk key i w h, same (i - Nk) (omega arith), same (i - 1) (omega arith)))
-    (⊎-elim (λ (e : Nk - i ≡ 0). inr (omega arith)) (λ (l : 0 < Nk - i). inl (omega arith)) (eq-zero-or-pos (Nk - i)))
+module _ (n Nk : ℕ) (key : List ℕ) (i : ℕ) (words : List ℕ) (held : Held n Nk key i words) where
+  pub read-held : (j : ℕ) → j < i → getD words j 0 ≡ getD (keyWords Nk key i) j 0
+  read-held j l = rw held (List·getD-append (keyWords Nk key i) (replicate (n - i) 0) 0 j (rw (length-keyWords Nk key i) l))
 
-pub word-at : (Nk : ℕ) (key : List ℕ) (n i : ℕ) (w : List ℕ) → 0 < Nk → i < n → ((j : ℕ) → j < i → getD w j 0 ≡ getD (keyWords Nk key n) j 0)
-    → keyWord Nk key i w ≡ getD (keyWords Nk key n) i 0
-word-at Nk key n i w pos h same =
-    keyWord-same Nk key i w (keyWords Nk key i) pos
-    (λ j l. same j l ∙ keyWords-at Nk key n j (omega arith) ∙ sym (keyWords-at Nk key i j l))
-    ∙ sym (keyWords-at Nk key n i h)
+  pub length-held : i ≤ n → length words ≡ n
+  length-held l = rw (held, length-append, length-keyWords Nk key i, length-replicate) (omega arith)
+
+  module _ (v : ℕ) (fits : i < n) where
+    put : v ≡ keyWord Nk key i (keyWords Nk key i) → Held n Nk key (i + 1) (set words i v)
+    unfolding keyWords
+    put e =
+        let more : n - i ≡ suc (n - (i + 1)) = omega arith in
+        let next : i + 1 ≡ suc i = omega arith in
+        rw (held, more, next, ← e)
+        (set-at (keyWords Nk key i) 0 (replicate (n - suc i) 0) v i (length-keyWords Nk key i)
+        ∙ sym (append-assoc (keyWords Nk key i) (v ∷ []) (replicate (n - suc i) 0)))
+
+    -- One of the key's own, and one of those that follow.
+    pub put-own : i < Nk → v ≡ ownWord key i → Held n Nk key (i + 1) (set words i v)
+    unfolding keyWord
+    put-own l e = put (rw (lt-ltb i Nk l) e)
+
+    pub put-next : 0 < Nk → Nk ≤ i → v ≡ getD words (i - Nk) 0 ⊕ temp Nk i (getD words (i - 1) 0) → Held n Nk key (i + 1) (set words i v)
+    unfolding keyWord
+    put-next pos l e = put (rw (le-ltb i Nk l, ← read-held (i - Nk) (omega arith), ← read-held (i - 1) (omega arith)) e)
+
+-- The place Nk * j + m of a word behind the key's own has a round constant, where there are at least four words in a key.
+pub groups : (Nk j m : ℕ) → 4 ≤ Nk → m < Nk → Nk ≤ Nk * j + m → Nk * j + m < 4 * (Nk + 7) → (1 ≤ j) × (j ≤ 10)
+groups Nk zero m four h own end = absurd (omega (arith, mul-zero Nk))
+groups Nk (suc j) m four h own end =
+    let few : suc j < 11 = lt-of-not-le (λ (over : 11 ≤ suc j). omega (arith, mul-le-mul-left Nk over)) in
+    (omega arith, omega arith)

@@ -1,7 +1,7 @@
 -- AES of FIPS 197, by its names and in the order of its sections. A state is a list of 16 bytes; a word of the key is a number below 2 ^ 32
 -- and a block one below 2 ^ 128, the first byte highest.
 use Prim.Native.Nat.{ℕ, zero, suc, _+_, _-_, _*_, _/_, _%_, _^_, _<_}
-use mathlib.Core.Bool.{Bool, true, false, _&&_}
+use mathlib.Core.Bool.{Bool, true, false, _&&_, _||_}
 use mathlib.Core.List.{List, [], _∷_, _++_}
 use lib.Dec.{ltb, eqb}
 use lib.ListN.{length, getD}
@@ -114,7 +114,7 @@ rotWord w = word (byteOf w 1) (byteOf w 2) (byteOf w 3) (byteOf w 0)
 unfoldable pub subWord : ℕ → ℕ
 subWord w = word (sBox (byteOf w 0)) (sBox (byteOf w 1)) (sBox (byteOf w 2)) (sBox (byteOf w 3))
 
--- The number of rounds: 10 for the 4 words of a 16-byte key.
+-- The number of rounds: 10 for the 4 words of a 16-byte key, 14 for the 8 words of a 32-byte key.
 abbrev pub Nr : ℕ → ℕ
 Nr Nk = Nk + 6
 
@@ -201,13 +201,19 @@ encipher Nr w b = number (cipher (roundKey w) Nr (bytes 16 b))
 unfoldable pub decipher : ℕ → List ℕ → ℕ → ℕ
 decipher Nr w b = number (invCipher (roundKey w) Nr (bytes 16 b))
 
--- A key is 16 bytes, which are 4 words.
-unfoldable pub isKey : List ℕ → Bool
-isKey key = eqb (length key) 16
+-- ---- keys
 
--- AES under a key.
+-- A key is 16 bytes or 32.
+unfoldable pub isKey : List ℕ → Bool
+isKey key = eqb (length key) 16 || eqb (length key) 32
+
+-- Nk, the number of its words: 4 or 8.
+abbrev pub NkOf : List ℕ → ℕ
+NkOf key = length key / 4
+
+-- AES under a key, whose length chooses the number of words and with it that of rounds.
 unfoldable pub aes : List ℕ → BlockCipher
 aes key = record {
-  E = encipher (Nr 4) (keyExpansion 4 key);
-  D = decipher (Nr 4) (keyExpansion 4 key);
+  E = encipher (Nr (NkOf key)) (keyExpansion (NkOf key) key);
+  D = decipher (Nr (NkOf key)) (keyExpansion (NkOf key) key);
 }

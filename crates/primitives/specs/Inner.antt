@@ -1,11 +1,11 @@
 -- What the contracts of inner functions cite: nobody has to believe it.
-use Prim.Native.Nat.{ℕ, _+_, _%_, _<_}
+use Prim.Native.Nat.{ℕ, _+_, _%_, _≤_, _<_}
 use mathlib.Core.Path.{_≡_}
 use mathlib.Core.List.{List, [], _∷_}
 use lib.ListN.{getD}
 use Rattle.strings.specs.Xor.{_⊕_}
 use Rattle.strings.specs.Bytes.{bytes}
-use Rattle.primitives.specs.Aes.{_•_, at, state, byteOf, sBox, invSBox, rotWord}
+use Rattle.primitives.specs.Aes.{_•_, at, state, byteOf, sBox, invSBox, rotWord, Nr}
 
 -- The list t is the table of f on the bytes.
 pub record Table (f : ℕ → ℕ) (t : List ℕ) : Type 0 where
@@ -14,6 +14,10 @@ pub record Table (f : ℕ → ℕ) (t : List ℕ) : Type 0 where
 -- x is s with each byte looked up in t: f of it, for every f whose table t is.
 abbrev pub Substituted : List ℕ → List ℕ → List ℕ → Type 0
 Substituted t s x = (f : ℕ → ℕ) → Table f t → x ≡ state (λ r c. f (at s r c))
+
+-- There is a round before the last, and the array of words has a round key for each.
+abbrev pub HasRoundKeys : ℕ → Type 0
+HasRoundKeys rounds = (2 ≤ rounds) × (rounds ≤ Nr 8)
 
 -- The state whose columns are four words.
 unfoldable pub ofColumns : List ℕ → List ℕ

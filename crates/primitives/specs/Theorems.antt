@@ -1,13 +1,15 @@
 -- The theorems of this crate, each by name. One value of this record, proofs/Theorems.antt, proves them all.
 use Prim.Native.Nat.{ℕ, _^_, _<_}
 use mathlib.Core.Path.{_≡_}
+use mathlib.Core.Bool.{true}
 use mathlib.Core.List.{List}
 use Rattle.strings.specs.Cipher.{Permutation}
 use Rattle.blocks.specs.Blocks.{IsBlock}
 use Rattle.blocks.specs.BlockCipher.{BlockPermutation}
 use Rattle.blocks.specs.Field.{product}
 use Rattle.polynomials.specs.Inner.{carryless, reduction}
-use Rattle.primitives.specs.Aes.{Byte, _•_, inverse, sBox, invSBox, State, subBytes, invSubBytes, shiftRows, invShiftRows, mixColumns, invMixColumns, addRoundKey, cipher, invCipher, encipher, decipher, aes}
+use Rattle.primitives.specs.Aes.{Byte, _•_, inverse, sBox, invSBox, State, subBytes, invSubBytes, shiftRows, invShiftRows, mixColumns, invMixColumns, addRoundKey, cipher, invCipher, encipher, decipher, isKey, aes}
+use Rattle.primitives.specs.Expanded.{expandedKey, under}
 
 pub record Theorems : Type 0 where
   -- The product is the reduction of the carry-less one, for every width and polynomial: the code goes by this.
@@ -26,3 +28,5 @@ pub record Theorems : Type 0 where
       → Permutation State (cipher roundKeys Nr) (invCipher roundKeys Nr)
   pub words-permutation : (Nr : ℕ) (w : List ℕ) → Permutation IsBlock (encipher Nr w) (decipher Nr w)
   pub aes-permutation : (key : List ℕ) → BlockPermutation (aes key)
+  -- What is made of a key of either length stands for AES under that key.
+  pub expanded-aes : (key : List ℕ) → isKey key ≡ true → under (expandedKey key) ≡ aes key

@@ -14,14 +14,14 @@ pub(crate) type State = [u8; 16];
 
 pub(crate) type Columns = [u32; 4];
 
-pub(crate) type Words = [u32; 44];
+pub(crate) type Words = [u32; 60];
 
 pub(crate) type Table = [u8; 256];
 
 pub(crate) type Mixing = [u32; 256];
 
-// The number of rounds that a key of 16 bytes gets.
-pub(crate) const ROUNDS: usize = 10;
+// The most rounds that there are round keys for.
+pub(crate) const ROUNDS: usize = 14;
 
 // The inverse of SubBytes, by the inverse S-box that is lent.
 fn inv_sub_bytes(table: &Table, s: State) -> State
@@ -71,7 +71,7 @@ fn sub_bytes(table: &Mixing, s: State) -> State
 }
 
 // RotWord, 5.2.
-fn rot_word(w: u32) -> u32
+pub(crate) fn rot_word(w: u32) -> u32
     ensures { λ r. ⌜ r ≡ rotWord w ⌝ }
 {
     (w << 8) ^ (w >> 24)
@@ -99,7 +99,7 @@ fn mix_columns(table: &Mixing, w: Columns) -> Columns
 
 // AddRoundKey with the key of round n, whose words are the columns.
 pub(crate) fn add_round_key(words: &Words, n: usize, w: Columns) -> Columns
-    requires { ⌜ n ≤ Nr 4 ⌝ }
+    requires { ⌜ n ≤ Nr 8 ⌝ }
     ensures { λ x. ⌜ ofColumns x ≡ addRoundKey (roundKey (now (words .entry)) n) (ofColumns w) ⌝ }
 {
     let mut t = [0u32; 4];
@@ -111,7 +111,7 @@ pub(crate) fn add_round_key(words: &Words, n: usize, w: Columns) -> Columns
 
 // Round n. The rows are shifted first, since SubBytes takes each byte by itself.
 pub(crate) fn round(table: &Mixing, words: &Words, n: usize, w: Columns) -> Columns
-    requires { ⌜ CipherTable (now table) × (n ≤ Nr 4) ⌝ }
+    requires { ⌜ CipherTable (now table) × (n ≤ Nr 8) ⌝ }
     ensures { λ x. ⌜ ofColumns x ≡ round (roundKey (now (words .entry))) n (ofColumns w) ⌝ }
 {
     add_round_key(
@@ -123,7 +123,7 @@ pub(crate) fn round(table: &Mixing, words: &Words, n: usize, w: Columns) -> Colu
 
 // The last round has no mixing.
 pub(crate) fn last_round(table: &Mixing, words: &Words, n: usize, w: Columns) -> Columns
-    requires { ⌜ CipherTable (now table) × (n ≤ Nr 4) ⌝ }
+    requires { ⌜ CipherTable (now table) × (n ≤ Nr 8) ⌝ }
     ensures { λ x. ⌜ ofColumns x ≡ lastRound (roundKey (now (words .entry))) n (ofColumns w) ⌝ }
 {
     add_round_key(
@@ -135,7 +135,7 @@ pub(crate) fn last_round(table: &Mixing, words: &Words, n: usize, w: Columns) ->
 
 // The last round of the inverse cipher, which has no mixing either.
 pub(crate) fn inv_last_round(table: &Table, words: &Words, n: usize, w: Columns) -> Columns
-    requires { ⌜ Table invSBox (now table) × (n ≤ Nr 4) ⌝ }
+    requires { ⌜ Table invSBox (now table) × (n ≤ Nr 8) ⌝ }
     ensures { λ x. ⌜ ofColumns x ≡ invLastRound (roundKey (now (words .entry))) n (ofColumns w) ⌝ }
 {
     add_round_key(
@@ -153,7 +153,7 @@ pub(crate) fn inv_round(
     n: usize,
     w: Columns,
 ) -> Columns
-    requires { ⌜ InvCipherTables (now table) (now mixing) × (n ≤ Nr 4) ⌝ }
+    requires { ⌜ InvCipherTables (now table) (now mixing) × (n ≤ Nr 8) ⌝ }
     ensures { λ x. ⌜ ofColumns x ≡ invRound (roundKey (now (words .entry))) n (ofColumns w) ⌝ }
 {
     mix_columns(mixing, inv_last_round(table, words, n, w))

@@ -5,7 +5,7 @@
 //     x a             a times x
 //     m a b           the product of a and b
 //     s r a1 .. an    the sum of a1 times r^n down to an times r, n from 0 on
-//     ae k a          a enciphered by AES-128 under the key k
+//     ae k a          a enciphered by AES under the key k
 //     ad k a          a deciphered
 //     he k t d        d enciphered by HCH under the key k and the tweak t
 //     hd k t d        d deciphered
@@ -20,13 +20,14 @@
 //     rs k p n l r    the lent run r sealed, with the list of lengths l, for the pack p and the places from n on
 //     ro k p n l r    the lent run r opened, its lengths written to the lent list l
 //
-// p has 16 digits and n has 8; l has 4 for each entry. The fields k, t, d, b, c, l and r of the last
-// twelve may have any length, and be empty; those of the others are blocks. What HCH or the pack
-// refuses is answered `no` and the number of the reason. The last seven answer the call's number, 0
-// where it was done, a space, and all the lent bytes as the call leaves them. In front of these, `ro`
-// answers the place of the block that would not open, where that is the reason, and the list as it is
-// left, with a space behind each.
+// In `x`, `m` and `s` every field is a block, and a is one in `ae` and `ad`. p has 16 digits and n has
+// 8; l has 4 for each entry. All other fields, and l, may have any length, and be empty. What the
+// library refuses, as a key of neither 16 nor 32 bytes, is answered `no` and the number of the reason.
+// The last seven answer the call's number, 0 where it was done, a space, and all the lent bytes as the
+// call leaves them. In front of these, `ro` answers the place of the block that would not open, where
+// that is the reason, and the list as it is left, with a space behind each.
 mod batch;
+mod cipher;
 mod fields;
 mod finding;
 mod message;
@@ -35,7 +36,6 @@ mod sealing;
 use blocks::block::Block;
 use libc::STDIN_FILENO;
 use libc::STDOUT_FILENO;
-use primitives::aes::ExpandedKey;
 use primitives::field;
 use text::hex::Decoded;
 use text::part::Kept;
@@ -117,9 +117,11 @@ fn reply(line: &[u8]) -> bool {
     run(&line[0..end], &line[next..])
 }
 
-// A command on the rest of its line: those of HCH and of a pack begin with a key, but for the two that find, and all others read
-// blocks.
+// A command on the rest of its line. Those of one letter read blocks; those of two begin with a key, but for the two that find.
 fn run(command: &[u8], rest: &[u8]) -> bool {
+    if command.len() == 1 {
+        return run_blocks(command[0], rest);
+    }
     if command.len() == 2 {
         let scheme = command[0];
         let way = command[1];
@@ -129,15 +131,9 @@ fn run(command: &[u8], rest: &[u8]) -> bool {
         if scheme == b'l' && way == b'f' {
             return finding::reply_lent(rest);
         }
-        if scheme == b'h' || scheme == b'p' || scheme == b'l' || scheme == b'r' {
-            return run_keyed(scheme, way, rest);
-        }
+        return run_keyed(scheme, way, rest);
     }
-    let mut data = fields::room();
-    let Decoded::Bytes(n) = fields::blocks_from(rest, &mut data) else {
-        return false;
-    };
-    run_blocks(command, &data[0..n])
+    false
 }
 
 // A command under a key of any length. Those of `l` are of HCH or of a pack, as the second letter says.
@@ -148,24 +144,26 @@ fn run_keyed(scheme: u8, way: u8, rest: &[u8]) -> bool {
     };
     let key = &key[0..n];
     let rest = &rest[2 * n + 1..];
+    if scheme == b'a' {
+        return cipher::reply(way, key, rest);
+    }
     let lent = scheme == b'l';
     if scheme == b'h' || lent && (way == b'e' || way == b'd') {
         return message::reply(lent, way, key, rest);
     }
-    sealing::reply(scheme, way, key, rest)
-}
-
-// A command on the bytes of its blocks.
-fn run_blocks(command: &[u8], data: &[u8]) -> bool {
-    if command.len() == 1 {
-        return ring(command[0], data);
-    }
-    if command.len() == 2 {
-        if command[0] == b'a' {
-            return aes(command[1], data);
-        }
+    if scheme == b'p' || lent || scheme == b'r' {
+        return sealing::reply(scheme, way, key, rest);
     }
     false
+}
+
+// A command on blocks.
+fn run_blocks(command: u8, rest: &[u8]) -> bool {
+    let mut data = fields::room();
+    let Decoded::Bytes(n) = fields::blocks_from(rest, &mut data) else {
+        return false;
+    };
+    ring(command, &data[0..n])
 }
 
 // The products of blocks.
@@ -185,25 +183,6 @@ fn ring(command: u8, data: &[u8]) -> bool {
     }
     if command == b's' {
         fields::put_block(field::power_sum(a, &data[16..]));
-        return true;
-    }
-    false
-}
-
-// A block under a key, one way or the other. The key is the first block.
-fn aes(direction: u8, data: &[u8]) -> bool {
-    if data.len() != 32 {
-        return false;
-    }
-    let expansion = ExpandedKey::new(&data[0..16]);
-    let expanded = expansion.expanded;
-    let block = Block::read(data, 16);
-    if direction == b'e' {
-        fields::put_block(expanded.encipher(block));
-        return true;
-    }
-    if direction == b'd' {
-        fields::put_block(expanded.decipher(block));
         return true;
     }
     false

@@ -72,6 +72,15 @@ reply-requires-2 c κs = search needs
 returns-3 : tie.Need-returns-3
 returns-3 c = search needs
 
+reply-requires-3 : tie.Need-reply-requires-3
+reply-requires-3 c κs = search needs
+
+returns-4 : tie.Need-returns-4
+returns-4 c = search needs
+
+returns-5 : tie.Need-returns-5
+returns-5 c = search needs
+
 pub run-keyed-spec : {M : Type 1} → statement M
 run-keyed-spec =
     tie.close
@@ -93,4 +102,7 @@ run-keyed-spec =
     reply-requires
     returns-2
     reply-requires-2
-    returns-3)
+    returns-3
+    reply-requires-3
+    returns-4
+    returns-5)

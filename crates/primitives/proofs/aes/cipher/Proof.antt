@@ -5,7 +5,7 @@ use mathlib.Core.Path.{_≡_, ap, _∙_}
 use mathlib.Core.List.{List}
 use native.Mathlib.Omega.{arith}
 use denote.Ref.{now}
-use Rattle.primitives.specs.Aes.{round, lastRound, rounds, cipher, Nr, roundKey}
+use Rattle.primitives.specs.Aes.{round, lastRound, rounds, cipher, roundKey}
 use Rattle.primitives.specs.Inner.{ofColumns}
 use borrow.Author.Needs.{needs}
 use Rattle.primitives.proofs.aes.cipher.Statement.{statement}
@@ -19,11 +19,11 @@ turn k n p t x l e r =
     rw (m, q, ← e) r
 
 abbrev Inv-loop : tie.InvT-loop
-Inv-loop mixed words t₀ n₀ t n =
-    (1 ≤ n) × (n ≤ Nr 4) × ((p : List ℕ) → ofColumns t₀ ≡ rounds (roundKey words) 0 p → ofColumns t ≡ rounds (roundKey words) (n - 1) p)
+Inv-loop mixed words Nr t₀ n₀ t n =
+    (1 ≤ n) × (n ≤ Nr) × ((p : List ℕ) → ofColumns t₀ ≡ rounds (roundKey words) 0 p → ofColumns t ≡ rounds (roundKey words) (n - 1) p)
 
 abbrev μ-loop : tie.MeasureT-loop
-μ-loop mixed words t₀ n₀ t n = Nr 4 - n
+μ-loop mixed words Nr t₀ n₀ t n = Nr - n
 
 add-round-key-requires : tie.Need-add-round-key-requires Inv-loop μ-loop
 add-round-key-requires c κs = search needs
@@ -55,8 +55,8 @@ returns c =
     let l = c .before .before .loop in
     let a = c .before .before .before .before .args in
     let k = roundKey (now (a .words)) in
-    let end : l .n ≡ Nr 4 = omega arith in
-    c .last-round .ensures ∙ ap (lastRound k (Nr 4)) (rw end at (l .inv .2 (ofColumns (a .w)) (c .before .before .before .add-round-key .ensures)))
+    let end : l .n ≡ a .rounds = omega arith in
+    c .last-round .ensures ∙ ap (lastRound k (a .rounds)) (rw end at (l .inv .2 (ofColumns (a .w)) (c .before .before .before .add-round-key .ensures)))
 
 pub cipher-spec : {M : Type 1} → statement M
 cipher-spec =

@@ -2,7 +2,7 @@
 -- Assumes nothing.
 use denote.Ref.{now}
 use Rattle.blocks.specs.Inner.{value}
-use Rattle.primitives.specs.Aes.{cipher, Nr, roundKey, encipher}
+use Rattle.primitives.specs.Aes.{cipher, roundKey, encipher}
 use Rattle.primitives.proofs.Mixing.{through-columns}
 use borrow.Author.Needs.{needs}
 use Rattle.primitives.proofs.aes.encipher_by.Statement.{statement}
@@ -21,7 +21,7 @@ returns : tie.Need-returns
 unfolding encipher
 returns c =
     let a = c .before .before .before .args in
-    through-columns (cipher (roundKey (now (a .words))) (Nr 4)) (value (a .block)) (value (c .from-words .result)) (c .before .before .to-words .result) (c .before .cipher .result)
+    through-columns (cipher (roundKey (now (a .words))) (a .rounds)) (value (a .block)) (value (c .from-words .result)) (c .before .before .to-words .result) (c .before .cipher .result)
     (c .before .before .to-words .ensures) (c .before .cipher .ensures) (c .from-words .ensures)
 
 pub encipher-by-spec : {M : Type 1} → statement M

@@ -5,7 +5,7 @@ use mathlib.Core.Path.{_≡_, refl, ap, _∙_}
 use mathlib.Core.List.{List}
 use native.Mathlib.Omega.{arith}
 use denote.Ref.{now}
-use Rattle.primitives.specs.Aes.{invRound, invRounds, invCipher, Nr, roundKey}
+use Rattle.primitives.specs.Aes.{invRound, invRounds, invCipher, roundKey}
 use Rattle.primitives.specs.Inner.{ofColumns}
 use borrow.Author.Needs.{needs}
 use Rattle.primitives.proofs.aes.inv_cipher.Statement.{statement}
@@ -18,11 +18,11 @@ turn k N j t x l r =
     rw (r, e)
 
 abbrev Inv-loop : tie.InvT-loop
-Inv-loop table mixing words t₀ j₀ t j =
-    (1 ≤ j) × (j ≤ Nr 4) × (invRounds (roundKey words) (Nr 4 - j) (ofColumns t) ≡ invRounds (roundKey words) (Nr 4 - 1) (ofColumns t₀))
+Inv-loop table mixing words Nr t₀ j₀ t j =
+    (1 ≤ j) × (j ≤ Nr) × (invRounds (roundKey words) (Nr - j) (ofColumns t) ≡ invRounds (roundKey words) (Nr - 1) (ofColumns t₀))
 
 abbrev μ-loop : tie.MeasureT-loop
-μ-loop table mixing words t₀ j₀ t j = Nr 4 - j
+μ-loop table mixing words Nr t₀ j₀ t j = Nr - j
 
 add-round-key-requires : tie.Need-add-round-key-requires Inv-loop μ-loop
 add-round-key-requires c κs = search needs
@@ -45,8 +45,9 @@ loop-less c = search needs
 loop-again : tie.Need-loop-again Inv-loop μ-loop
 loop-again c =
     let l = c .before .before .loop in
-    let k = roundKey (now (c .before .before .before .before .args .words)) in
-    (omega arith, omega arith, turn k (Nr 4) (l .j) (ofColumns (l .t)) (ofColumns (c .inv-round .result)) (omega arith) (c .inv-round .ensures) ∙ l .inv .2)
+    let a = c .before .before .before .before .args in
+    let k = roundKey (now (a .words)) in
+    (omega arith, omega arith, turn k (a .rounds) (l .j) (ofColumns (l .t)) (ofColumns (c .inv-round .result)) (omega arith) (c .inv-round .ensures) ∙ l .inv .2)
 
 inv-last-round-requires : tie.Need-inv-last-round-requires Inv-loop μ-loop
 inv-last-round-requires c κs = search needs
@@ -55,9 +56,10 @@ returns : tie.Need-returns Inv-loop μ-loop
 unfolding invRounds invCipher
 returns c =
     let l = c .before .before .loop in
-    let k = roundKey (now (c .before .before .before .before .args .words)) in
-    let none : Nr 4 - l .j ≡ 0 = omega arith in
-    c .inv-last-round .ensures ∙ (rw none at (l .inv .2)) ∙ ap (invRounds k (Nr 4 - 1)) (c .before .before .before .add-round-key .ensures)
+    let a = c .before .before .before .before .args in
+    let k = roundKey (now (a .words)) in
+    let none : a .rounds - l .j ≡ 0 = omega arith in
+    c .inv-last-round .ensures ∙ (rw none at (l .inv .2)) ∙ ap (invRounds k (a .rounds - 1)) (c .before .before .before .add-round-key .ensures)
 
 pub inv-cipher-spec : {M : Type 1} → statement M
 inv-cipher-spec =

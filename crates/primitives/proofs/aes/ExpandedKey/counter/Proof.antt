@@ -9,7 +9,7 @@ use lib.Seq.{take-all}
 use Rattle.strings.specs.Xor.{_⊕_}
 use Rattle.blocks.specs.Blocks.{bin}
 use Rattle.blocks.specs.Counter.{maskedBytes}
-use Rattle.primitives.specs.Aes.{Nr, encipher}
+use Rattle.primitives.specs.Aes.{encipher}
 use Rattle.blocks.specs.Inner.{value}
 use Rattle.blocks.proofs.Counter.{masked-nil, masked-next}
 use Rattle.strings.proofs.Place.{length-overwrite}
@@ -18,16 +18,19 @@ use Rattle.primitives.proofs.aes.ExpandedKey.counter.Statement.{stateme
 use Rattle.primitives.proofs.aes.ExpandedKey.counter.Tie as tie
 
 abbrev Inv-loop : tie.InvT-loop
-Inv-loop S message₀ mixed words at₀ s at =
-    (take at s ++ maskedBytes (λ i. encipher (Nr 4) words (value S ⊕ bin i)) (at / 16 + 1) (drop at s)
-    ≡ maskedBytes (λ i. encipher (Nr 4) words (value S ⊕ bin i)) 1 message₀)
+Inv-loop S message₀ mixed words Nr at₀ s at =
+    (take at s ++ maskedBytes (λ i. encipher Nr words (value S ⊕ bin i)) (at / 16 + 1) (drop at s)
+    ≡ maskedBytes (λ i. encipher Nr words (value S ⊕ bin i)) 1 message₀)
     × (length s ≡ length message₀)
 
 abbrev μ-loop : tie.MeasureT-loop
-μ-loop S message₀ mixed words at₀ s at = length s - at
+μ-loop S message₀ mixed words Nr at₀ s at = length s - at
 
 table-requires : tie.Need-table-requires Inv-loop μ-loop
 table-requires c κs = search needs
+
+rounds-done-requires : tie.Need-rounds-done-requires Inv-loop μ-loop
+rounds-done-requires c κs = search needs
 
 loop-holds : tie.Need-loop-holds Inv-loop μ-loop
 loop-holds c = (refl, refl)
@@ -46,10 +49,10 @@ loop-again c =
     let m = c .before .before in
     let turn = m .before .before .before .before in
     let l = turn .before .loop in
-    let args = turn .before .before .before .before .before .args in
+    let args = turn .before .before .before .before .before .before .args in
     let next : (l .at + 16) / 16 + 1 ≡ suc (l .at / 16 + 1) = omega arith in (
       rw (m .mask-block .ensures, next)
-          (masked-next (λ i. encipher (Nr 4) (args .self .words) (value (args .s) ⊕ bin i)) (l .at / 16 + 1) (l .at) (l .message) (turn .loop-test .taken)
+          (masked-next (λ i. encipher (turn .before .before .rounds-done .result) (args .self .words) (value (args .s) ⊕ bin i)) (l .at / 16 + 1) (l .at) (l .message) (turn .loop-test .taken)
           ∙ l .inv .0),
       simp (m .mask-block .ensures, length-overwrite) (l .inv .1),
     )
@@ -65,6 +68,7 @@ returns c =
       drop-of-length-le (l .message) (c .loop-test .left),
       masked-nil _ (l .at / 16 + 1),
       append-nil (l .message),
+      c .before .before .rounds-done .ensures,
     ) at (l .inv .0)
 
 pub counter-spec : {M : Type 1} → statement M
@@ -74,6 +78,7 @@ counter-spec =
     Inv-loop
     μ-loop
     table-requires
+    rounds-done-requires
     loop-holds
     mask-block-requires
     add-at

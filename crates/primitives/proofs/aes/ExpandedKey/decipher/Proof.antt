@@ -1,7 +1,8 @@
 -- The words of the block, through the cipher, as a block again.
 -- Assumes nothing.
 use Rattle.blocks.specs.Inner.{value}
-use Rattle.primitives.specs.Aes.{invCipher, Nr, roundKey, decipher}
+use Rattle.primitives.specs.Aes.{invCipher, roundKey, decipher}
+use Rattle.primitives.specs.Expanded.{roundsDone}
 use Rattle.primitives.proofs.Mixing.{through-columns}
 use borrow.Author.Needs.{needs}
 use Rattle.primitives.proofs.aes.ExpandedKey.decipher.Statement.{statement}
@@ -12,6 +13,9 @@ table-requires c κs = search needs
 
 table-requires-2 : tie.Need-table-requires-2
 table-requires-2 c κs = search needs
+
+rounds-done-requires : tie.Need-rounds-done-requires
+rounds-done-requires c κs = search needs
 
 to-words-requires : tie.Need-to-words-requires
 to-words-requires c κs = search needs
@@ -25,10 +29,11 @@ from-words-requires c κs = search needs
 returns : tie.Need-returns
 unfolding decipher
 returns c =
-    let a = c .before .before .before .before .before .before .before .before .before .args in
-    through-columns (invCipher (roundKey (a .self .words)) (Nr 4)) (value (a .block)) (value (c .from-words .result)) (c .before .before .to-words .result) (c .before .inv-cipher .result)
-    (c .before .before .to-words .ensures) (c .before .inv-cipher .ensures) (c .from-words .ensures)
+    let rounds = c .before .before .before .before .before .before in
+    let a = rounds .before .before .before .before .args in
+    through-columns (invCipher (roundKey (a .self .words)) (roundsDone (a .self .rounds))) (value (a .block)) (value (c .from-words .result)) (c .before .before .to-words .result) (c .before .inv-cipher .result)
+    (c .before .before .to-words .ensures) (rw (rounds .rounds-done .ensures) at (c .before .inv-cipher .ensures)) (c .from-words .ensures)
 
 pub decipher-spec : {M : Type 1} → statement M
 decipher-spec =
-    tie.close (tie.spec table-requires table-requires-2 to-words-requires inv-cipher-requires from-words-requires returns)
+    tie.close (tie.spec table-requires table-requires-2 rounds-done-requires to-words-requires inv-cipher-requires from-words-requires returns)
