@@ -1,10 +1,8 @@
 -- Each sentence is cited from the theorems of the crates below, or comes by the definitions.
 -- Assumes nothing.
 use Prim.Native.Nat.{ℕ}
-use mathlib.Core.Path.{_≡_, refl}
 use mathlib.Core.List.{List, [], append-nil}
 use mathlib.Core.Logic.{inl, inr}
-use lib.ListN.{length}
 use Rattle.strings.specs.Cipher.{Same}
 use Rattle.primitives.specs.Aes.{keyExpansion}
 use Rattle.primitives.specs.Expanded.{expandedKey}

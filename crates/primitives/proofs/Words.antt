@@ -13,7 +13,7 @@ use lib.Seq.{getD-drop, drop-drop, set-at}
 use Rattle.strings.specs.Xor.{_⊕_, xorBytes}
 use Rattle.strings.specs.Bytes.{Bytes, number, bytes}
 use Rattle.blocks.specs.Field.{power}
-use Rattle.primitives.specs.Aes.{_•_, sBox, word, byteOf, rotWord, subWord, rcon, choose, temp, ownWord, keyWord, keyWords}
+use Rattle.primitives.specs.Aes.{_•_, word, byteOf, rotWord, subWord, rcon, choose, temp, ownWord, keyWord, keyWords}
 use Rattle.strings.specs.Inner.{padded}
 use Rattle.strings.proofs.Xor.{xor-zero}
 use Rattle.strings.proofs.Bytes.{length-bytes, bytes-below, bytes-number, bytes-xor}
@@ -92,7 +92,7 @@ temp-place Nk j m t h =
     rw (rest, whole)
 
 -- The words of a key one after the other, in an array of n with zeros behind them.
-pub length-keyWords : (Nk : ℕ) (key : List ℕ) (i : ℕ) → length (keyWords Nk key i) ≡ i
+length-keyWords : (Nk : ℕ) (key : List ℕ) (i : ℕ) → length (keyWords Nk key i) ≡ i
 unfolding keyWords
 length-keyWords Nk key zero = refl
 length-keyWords Nk key (suc i) = rw (length-append, length-keyWords Nk key i) (omega arith)
@@ -101,7 +101,7 @@ abbrev pub Held : (n Nk : ℕ) → List ℕ → (i : ℕ) → List ℕ → Type 
 Held n Nk key i words = words ≡ keyWords Nk key i ++ replicate (n - i) 0
 
 module _ (n Nk : ℕ) (key : List ℕ) (i : ℕ) (words : List ℕ) (held : Held n Nk key i words) where
-  pub read-held : (j : ℕ) → j < i → getD words j 0 ≡ getD (keyWords Nk key i) j 0
+  read-held : (j : ℕ) → j < i → getD words j 0 ≡ getD (keyWords Nk key i) j 0
   read-held j l = rw held (List·getD-append (keyWords Nk key i) (replicate (n - i) 0) 0 j (rw (length-keyWords Nk key i) l))
 
   pub length-held : i ≤ n → length words ≡ n
@@ -126,9 +126,9 @@ module _ (n Nk : ℕ) (key : List ℕ) (i : ℕ) (words : List ℕ) (held : Held
     unfolding keyWord
     put-next pos l e = put (rw (le-ltb i Nk l, ← read-held (i - Nk) (omega arith), ← read-held (i - 1) (omega arith)) e)
 
--- The place Nk * j + m of a word behind the key's own has a round constant, where there are at least four words in a key.
-pub groups : (Nk j m : ℕ) → 4 ≤ Nk → m < Nk → Nk ≤ Nk * j + m → Nk * j + m < 4 * (Nk + 7) → (1 ≤ j) × (j ≤ 10)
-groups Nk zero m four h own end = absurd (omega (arith, mul-zero Nk))
-groups Nk (suc j) m four h own end =
+-- Word i, at the place Nk * j + m behind the key's own words, has a round constant, where a key has at least four words.
+pub groups : (Nk j m : ℕ) {i : ℕ} → 4 ≤ Nk → m < Nk → i ≡ Nk * j + m → Nk ≤ i → i < 4 * (Nk + 7) → (1 ≤ j) × (j ≤ 10)
+groups Nk zero m four h e own end = absurd (omega (arith, mul-zero Nk))
+groups Nk (suc j) m four h e own end =
     let few : suc j < 11 = lt-of-not-le (λ (over : 11 ≤ suc j). omega (arith, mul-le-mul-left Nk over)) in
     (omega arith, omega arith)

@@ -1,13 +1,13 @@
 -- An array that a loop fills from the front.
 -- Assumes nothing.
 use Prim.Native.Nat.{ℕ, _+_, _≤_, _<_, zero-le}
-use mathlib.Core.Path.{_≡_, sym, _∙_}
+use mathlib.Core.Path.{_≡_, _∙_}
 use mathlib.Core.List.{List}
 use mathlib.Core.Logic.{⊎-elim}
 use native.Mathlib.Nat.{le-of-suc-le-suc, not-suc-le-zero, eq-or-lt-of-le}
 use native.Mathlib.Omega.{arith}
 use lib.ListN.{length, getD, set, length-set}
-use lib.Seq.{getD-set-same, getD-set-other, ext-getD}
+use lib.Seq.{getD-set-same, getD-set-other}
 use Rattle.strings.proofs.Table.{table, is-table}
 
 -- The first i of n entries are g's.
@@ -32,11 +32,6 @@ one-filled {n} {i} {g} {s} v f h e =
 pub refilled : {n i : ℕ} {g h : ℕ → ℕ} {s : List ℕ} → ((j : ℕ) → g j ≡ h j) → Filled n i g s → Filled n i h s
 refilled e f = record { within = f .within; same-length = f .same-length; front = λ j l. f .front j l ∙ e j }
 
--- Filled to its end, the array is any list with g's entries, and so it is their table.
-pub all-filled-with : {n i : ℕ} {g : ℕ → ℕ} {s : List ℕ} (l : List ℕ) → length l ≡ n → ((j : ℕ) → j < n → getD l j 0 ≡ g j) → Filled n i g s → n ≤ i → s ≡ l
-all-filled-with {n} {i} {g} {s} l e eq f h =
-    ext-getD 0 s l (f .same-length ∙ sym e)
-    (λ j k. f .front j (omega (arith, f .same-length)) ∙ sym (eq j (omega (arith, f .same-length))))
-
+-- Filled to its end, the array is the table of g's entries.
 pub all-filled : {n i : ℕ} {g : ℕ → ℕ} {s : List ℕ} → Filled n i g s → n ≤ i → s ≡ table g n 0
 all-filled {n} {i} {g} {s} f h = is-table g n s (f .same-length) (λ j l. f .front j (omega arith))

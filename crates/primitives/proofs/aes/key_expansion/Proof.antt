@@ -57,8 +57,8 @@ temp-requires : tie.Need-temp-requires Inv-loop μ-loop
 temp-requires c κs =
     let l = c .before .before .loop in
     let start = c .before .before .before .before .before .before in
-    let at = groups (start .args .nk) (l .place .j) (l .place .m) (start .pre .0) (l .inv .3) (rw (← l .inv .2) (l .inv .4)) (rw (← l .inv .2) (omega arith)) in
-    (c .before .before .before .before .table .ensures, at .0, at .1, l .inv .3)
+    let few = groups (start .args .nk) (l .place .j) (l .place .m) (start .pre .0) (l .inv .3) (l .inv .2) (l .inv .4) (omega arith) in
+    (c .before .before .before .before .table .ensures, few .0, few .1, l .inv .3)
 
 mul-words : tie.Need-mul-words Inv-loop μ-loop
 mul-words c = search needs
@@ -70,8 +70,8 @@ next-requires : tie.Need-next-requires Inv-loop μ-loop
 next-requires c κs =
     let l = c .before .before .before .loop in
     let start = c .before .before .before .before .before .before .before in
-    let at = groups (start .args .nk) (l .place .j) (l .place .m) (start .pre .0) (l .inv .3) (rw (← l .inv .2) (l .inv .4)) (rw (← l .inv .2) (omega arith)) in
-    (l .inv .3, at .1)
+    let few = groups (start .args .nk) (l .place .j) (l .place .m) (start .pre .0) (l .inv .3) (l .inv .2) (l .inv .4) (omega arith) in
+    (l .inv .3, few .1)
 
 add-i : tie.Need-add-i Inv-loop μ-loop
 add-i c = search needs
