@@ -1,4 +1,4 @@
-/* AES-128 in plain C, to measure against: a table for the S-box, MixColumns byte by byte, no intrinsics. */
+/* AES in plain C, to measure against: a table for the S-box, MixColumns byte by byte, no intrinsics. */
 #include "aes.h"
 
 const uint8_t plain_sbox[256] = {
@@ -98,24 +98,39 @@ void plain_inv_mix_columns(uint8_t s[16]) {
     plain_mix_columns(s);
 }
 
-void plain_aes_expand(uint32_t w[44], const uint8_t key[16]) {
+/* The S-box of each byte of a word, given in the order that they have afterwards. */
+static inline uint32_t sub_word(uint32_t a, uint32_t b, uint32_t c, uint32_t d) {
+    return (uint32_t)plain_sbox[a & 255] << 24 | (uint32_t)plain_sbox[b & 255] << 16 | (uint32_t)plain_sbox[c & 255] << 8 | plain_sbox[d & 255];
+}
+
+/* Nk is the number of words of the key. It is a constant in each call below, so that no remainder is a division. */
+static inline void expand(aes_key *k, const uint8_t *key, size_t nk) {
+    uint32_t *w = k->words;
     uint8_t constant = 1;
-    for (int i = 0; i < 4; i++)
+    k->rounds = nk + 6;
+    for (size_t i = 0; i < nk; i++)
         w[i] = (uint32_t)key[4 * i] << 24 | (uint32_t)key[4 * i + 1] << 16 | (uint32_t)key[4 * i + 2] << 8 | key[4 * i + 3];
-    for (int i = 4; i < 44; i++) {
-        uint32_t t = w[i - 1];
-        if (i % 4 == 0) {
-            t = (uint32_t)plain_sbox[t >> 16 & 255] << 24 | (uint32_t)plain_sbox[t >> 8 & 255] << 16 | (uint32_t)plain_sbox[t & 255] << 8 | plain_sbox[t >> 24];
-            t ^= (uint32_t)constant << 24;
+    uint32_t t = w[nk - 1];
+    for (size_t i = nk; i < 4 * (nk + 7); i++) {
+        if (i % nk == 0) {
+            t = sub_word(t >> 16, t >> 8, t, t >> 24) ^ (uint32_t)constant << 24;
             constant = times_x(constant);
+        } else if (nk > 6 && i % nk == 4) {
+            t = sub_word(t >> 24, t >> 16, t >> 8, t);
         }
-        w[i] = w[i - 4] ^ t;
+        w[i] = t ^= w[i - nk];
     }
 }
 
-void plain_aes_encipher(const uint32_t w[44], uint8_t s[16]) {
+void plain_aes_expand(aes_key *k, const uint8_t *key, size_t length) {
+    if (length == 16) expand(k, key, 4);
+    if (length == 32) expand(k, key, 8);
+}
+
+void plain_aes_encipher(const aes_key *k, uint8_t s[16]) {
+    const uint32_t *w = k->words;
     add_round_key(s, w);
-    for (int n = 1; n < 10; n++) {
+    for (size_t n = 1; n < k->rounds; n++) {
         sub_bytes(s);
         shift_rows(s);
         plain_mix_columns(s);
@@ -123,12 +138,13 @@ void plain_aes_encipher(const uint32_t w[44], uint8_t s[16]) {
     }
     sub_bytes(s);
     shift_rows(s);
-    add_round_key(s, w + 40);
+    add_round_key(s, w + 4 * k->rounds);
 }
 
-void plain_aes_decipher(const uint32_t w[44], uint8_t s[16]) {
-    add_round_key(s, w + 40);
-    for (int n = 9; n > 0; n--) {
+void plain_aes_decipher(const aes_key *k, uint8_t s[16]) {
+    const uint32_t *w = k->words;
+    add_round_key(s, w + 4 * k->rounds);
+    for (size_t n = k->rounds - 1; n > 0; n--) {
         inv_shift_rows(s);
         inv_sub_bytes(s);
         add_round_key(s, w + 4 * n);

@@ -20,17 +20,17 @@ static element times(const factor *r, element b) {
     return result;
 }
 
-static element encipher(const uint32_t w[44], element a) {
+static element encipher(const aes_key *k, element a) {
     uint8_t block[16];
     store(block, a);
-    plain_aes_encipher(w, block);
+    plain_aes_encipher(k, block);
     return load(block);
 }
 
-static element decipher(const uint32_t w[44], element a) {
+static element decipher(const aes_key *k, element a) {
     uint8_t block[16];
     store(block, a);
-    plain_aes_decipher(w, block);
+    plain_aes_decipher(k, block);
     return load(block);
 }
 
@@ -42,6 +42,10 @@ void plain_product(const uint8_t a[16], uint8_t block[16]) {
     store(block, times(&r, load(block)));
 }
 
-void plain_hch_encipher(const uint8_t key[16], const uint8_t tweak[16], uint8_t *data, size_t length) { hch(0, key, tweak, data, length); }
+void plain_hch_encipher(const uint8_t *key, size_t key_length, const uint8_t tweak[16], uint8_t *data, size_t length) {
+    hch(0, key, key_length, tweak, data, length);
+}
 
-void plain_hch_decipher(const uint8_t key[16], const uint8_t tweak[16], uint8_t *data, size_t length) { hch(1, key, tweak, data, length); }
+void plain_hch_decipher(const uint8_t *key, size_t key_length, const uint8_t tweak[16], uint8_t *data, size_t length) {
+    hch(1, key, key_length, tweak, data, length);
+}

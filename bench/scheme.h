@@ -3,7 +3,6 @@
    factor, prepare and times, R made ready for the products of one call, and a block times R. */
 #include "aes.h"
 #include "element.h"
-#include <stddef.h>
 #include <string.h>
 
 /* The last block of a string, padded with zeros. */
@@ -22,35 +21,35 @@ static element hash(const factor *r, element q, element first, const uint8_t *re
 }
 
 /* The i-th mask of the counter from s, added to a block. */
-static inline element masked(const uint32_t w[44], element s, uint64_t i, element block) {
+static inline element masked(const aes_key *k, element s, uint64_t i, element block) {
     s.low ^= i;
-    return add(block, encipher(w, s));
+    return add(block, encipher(k, s));
 }
 
-static void counter(const uint32_t w[44], element s, uint8_t *rest, size_t length) {
+static void counter(const aes_key *k, element s, uint8_t *rest, size_t length) {
     uint64_t i = 1;
-    for (; length >= 16; i++, rest += 16, length -= 16) store(rest, masked(w, s, i, load(rest)));
+    for (; length >= 16; i++, rest += 16, length -= 16) store(rest, masked(k, s, i, load(rest)));
     if (length > 0) {
         uint8_t last[16];
-        store(last, masked(w, s, i, load_part(rest, length)));
+        store(last, masked(k, s, i, load_part(rest, length)));
         memcpy(rest, last, length);
     }
 }
 
 /* Either way, in place: the hash, AES or its inverse, the counter, and the hash again; backwards Q and xQ change places. A message of one
    block needs no product, no S and no mask. */
-static inline void hch(int backwards, const uint8_t key[16], const uint8_t tweak[16], uint8_t *data, size_t length) {
+static inline void hch(int backwards, const uint8_t *key, size_t key_length, const uint8_t tweak[16], uint8_t *data, size_t length) {
     uint8_t *rest = data + 16;
     size_t n = length - 16;
-    uint32_t w[44];
-    plain_aes_expand(w, key);
+    aes_key k;
+    plain_aes_expand(&k, key, key_length);
     element bits = {0, 8 * (uint64_t)length};
-    element r = encipher(w, load(tweak));
-    element q = encipher(w, add(r, bits)), xq = times_x(q);
+    element r = encipher(&k, load(tweak));
+    element q = encipher(&k, add(r, bits)), xq = times_x(q);
     factor ready;
     if (n > 0) prepare(&ready, r);
     element before = hash(&ready, backwards ? xq : q, load(data), rest, n);
-    element after = backwards ? decipher(w, before) : encipher(w, before);
-    if (n > 0) counter(w, encipher(w, add(before, after)), rest, n);
+    element after = backwards ? decipher(&k, before) : encipher(&k, before);
+    if (n > 0) counter(&k, encipher(&k, add(before, after)), rest, n);
     store(data, hash(&ready, backwards ? q : xq, after, rest, n));
 }

@@ -8,10 +8,11 @@
  *     save KEYFILE PACKNUMBER PACKFILE chapter PLACE BOARD... writes the boards from there on to new files, in one go
  *     save KEYFILE PACKNUMBER PACKFILE check                  says of each place whether its block is good
  *
- * KEYFILE holds the 16 bytes of the key, and PACKNUMBER is a number of up to 64 bits. The pack file is a pack of 1 to
- * 128 blocks; add begins it where it is empty or missing. A board is a file, cut into payloads of 496 bytes. Its last
- * payload is shorter, and empty if nothing is left for it, so that a board's end is told from its blocks alone: a board
- * of 1,236 bytes takes three blocks, of 496, 496 and 244 bytes. One program at a time may add to a pack file.
+ * KEYFILE holds the 16 or 32 bytes of the key, and PACKNUMBER is a number of up to 64 bits. The pack file is a pack of
+ * 1 to 128 blocks, all under one key; add begins it where it is empty or missing. A board is a file, cut into payloads
+ * of 496 bytes. Its last payload is shorter, and empty if nothing is left for it, so that a board's end is told from
+ * its blocks alone: a board of 1,236 bytes takes three blocks, of 496, 496 and 244 bytes. One program at a time may add
+ * to a pack file.
  * If a board was not saved whole, the file takes no more until it is cut back to the end of its last whole board; if it
  * ends within a block, it gives none either, but check still looks at the blocks in front of that one.
  *
@@ -26,7 +27,7 @@
 #include <string.h>
 
 /* Set once, from the arguments. */
-static uint8_t key[BOARDS_KEY_SIZE + 1]; /* one byte more, so that a key file that is too long is told from a key */
+static uint8_t key[BOARDS_LONG_KEY_SIZE + 1]; /* one byte more, so that a key file that is too long is told */
 static size_t key_length;
 static uint64_t pack_number;
 static const char *pack_file;

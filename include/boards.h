@@ -1,6 +1,6 @@
 /*
- * boards.h: puzzle boards enciphered by HCH over AES-128, and sealed in blocks of 512 bytes, for C99 and C++ on
- * Linux, x86-64.
+ * boards.h: puzzle boards enciphered by HCH over AES-128 or AES-256, as the key's length says, and sealed in blocks of
+ * 512 bytes, for C99 and C++ on Linux, x86-64.
  *
  *     cc -I PREFIX/include -o program program.c -L PREFIX/lib -lboards
  *
@@ -22,6 +22,12 @@
  * for places that follow each other: a whole pack, a part of one, or blocks by themselves. Beside it goes a list with
  * the length of each block's payload. Each payload is sealed where it stands, at the front of its block. Of a run, all
  * blocks are opened or none is.
+ *
+ * A key is 16 bytes long, for AES-128, or 32 bytes long, for AES-256. Every call that takes a key takes both lengths.
+ * Decipher and open with the key that you enciphered and sealed with: under another one boards_decipher leaves some
+ * other board, and boards_open finds no check that holds, but by a chance as small as that of guessing 16 bytes. A key
+ * of 32 bytes is not one of 16 with more bytes behind it: its first 16 bytes are another key. To give a pack a longer
+ * key, open it with the old key and seal it with the new one.
  *
  * Each call does its work on the bytes that it is lent and answers 0, or it answers the number of what is wrong and
  * leaves every byte as it was, but for the place that boards_open_run writes to *failed. It does so for every key,
@@ -56,14 +62,15 @@
  * that makes the archive, and the C library's memcpy and memset; that your pointers and lengths are right; and that
  * HCH is hard to break.
  *
- * Timing. Nothing is promised of the time that a call takes, and no proof speaks of it. AES looks up tables at
- * places that depend on the key and the data: whoever shares a processor's cache with the program may learn something
- * of both. The products in HCH use no table, and no branch that depends on the data was seen in their compiled code.
- * HCH's own tests, in its source, are on lengths alone. Opening, in its source, looks at every byte of the check where
- * the payload's length is at most 496. Its time depends on that length, and a block that it answers 8 for takes twice
- * as long as a good one. A run is opened block by block up to the first that will not open, and what was opened is then
- * enciphered again. The compiled code of HCH and of opening was not searched for other branches. Nothing is wiped from
- * the stack. Keys are yours to make, to keep and to wipe.
+ * Timing. Nothing is promised of the time that a call takes, and no proof speaks of it. AES has 10 rounds under a key
+ * of 16 bytes and 14 under one of 32, so the time tells which it is. AES looks up tables at places that depend on the
+ * key and the data: whoever shares a processor's cache with the program may learn something of both. The products in
+ * HCH use no table, and no branch that depends on the data was seen in their compiled code. HCH's own tests, in its
+ * source, are on lengths alone. Opening, in its source, looks at every byte of the check where the payload's length is
+ * at most 496. Its time depends on that length, and a block that it answers 8 for takes twice as long as a good one. A
+ * run is opened block by block up to the first that will not open, and what was opened is then enciphered again. The
+ * compiled code of HCH and of opening was not searched for other branches. Nothing is wiped from the stack. Keys are
+ * yours to make, to keep and to wipe.
  */
 #ifndef BOARDS_H
 #define BOARDS_H
@@ -71,12 +78,13 @@
 #include <stddef.h>
 #include <stdint.h>
 
-/* The version of the library: 0.11. */
+/* The version of the library: 0.12. */
 #define BOARDS_VERSION_MAJOR 0
-#define BOARDS_VERSION_MINOR 11
+#define BOARDS_VERSION_MINOR 12
 
 /* The limits, in bytes but for the last three. */
-#define BOARDS_KEY_SIZE 16
+#define BOARDS_KEY_SIZE 16         /* of a key for AES-128 */
+#define BOARDS_LONG_KEY_SIZE 32    /* of a key for AES-256; calls take either */
 #define BOARDS_TWEAK_SIZE 16
 #define BOARDS_DATA_MIN 16
 #define BOARDS_DATA_MAX 4096
@@ -88,7 +96,7 @@
 
 /* What a call answers. */
 #define BOARDS_DONE 0                /* the work is done */
-#define BOARDS_WRONG_KEY_SIZE 1      /* key_length is not 16 */
+#define BOARDS_WRONG_KEY_SIZE 1      /* key_length is neither 16 nor 32 */
 #define BOARDS_WRONG_TWEAK_SIZE 2    /* tweak_length is not 16 */
 #define BOARDS_DATA_TOO_SHORT 3      /* the data is under 16 bytes long */
 #define BOARDS_DATA_TOO_LONG 4       /* the data is over 4,096 bytes long */
@@ -112,7 +120,7 @@ extern "C" {
 #endif
 
 /*
- * Enciphers a board of 16 to 4,096 bytes in place, by HCH under a key and a tweak of 16 bytes each.
+ * Enciphers a board of 16 to 4,096 bytes in place, by HCH under a key of 16 or 32 bytes and a tweak of 16.
  *
  * Answers BOARDS_DONE: data holds the enciphered board, as long as the plain one.
  * Answers 1, 2, 3 or 4, the first of them that applies (BOARDS_WRONG_KEY_SIZE, BOARDS_WRONG_TWEAK_SIZE,
@@ -135,9 +143,9 @@ uint32_t boards_decipher(const uint8_t *key, size_t key_length, const uint8_t *t
                          uint8_t *data, size_t length);
 
 /*
- * Seals a payload of 0 to 496 bytes into a block of 512 bytes, for any 64-bit pack number and a place from 0 to
- * 65,535. What the block held before has no effect, and it may never have been written. The same payload, sealed
- * again for the same pack and place, gives the same block.
+ * Seals a payload of 0 to 496 bytes into a block of 512 bytes, under a key of 16 or 32 bytes, for any 64-bit pack
+ * number and a place from 0 to 65,535. What the block held before has no effect, and it may never have been written.
+ * The same payload, sealed again under the same key for the same pack and place, gives the same block.
  *
  * Answers BOARDS_DONE: block holds the sealed block, the only one that boards_open opens to this payload with this
  * key, pack and place. It is the plain block that is described at boards_open, as boards_encipher enciphers it under
@@ -150,7 +158,8 @@ uint32_t boards_seal(const uint8_t *key, size_t key_length, const uint8_t *paylo
                      uint64_t pack, uint32_t place, uint8_t *block, size_t length);
 
 /*
- * Opens a sealed block of 512 bytes in place, with the key, the pack and the place that it was sealed for.
+ * Opens a sealed block of 512 bytes in place, with the key (16 or 32 bytes), the pack and the place that it was sealed
+ * for.
  *
  * Answers BOARDS_DONE: block holds the plain block. It has the payload from byte 0 on, boards_payload_length(block)
  * bytes of it, then zeros up to byte 495, the pack (8 bytes), the place (4), the payload's length (2) and two zeros,
@@ -187,10 +196,10 @@ static inline const uint8_t *boards_const_part(const uint8_t *pack, uint32_t pla
 }
 
 /*
- * Seals the payloads of a run of n blocks, 1 to 128, for the places first to first + n - 1 of a pack. The list lengths
- * has n numbers from 0 to 496. count is the count of its numbers and not of its bytes, for an array
- * sizeof lengths / sizeof lengths[0]. The payload of block i, counted from 0, is its first lengths[i] bytes; what
- * stands behind them has no effect, is overwritten, and may never have been written.
+ * Seals the payloads of a run of n blocks, 1 to 128, under a key of 16 or 32 bytes, for the places first to
+ * first + n - 1 of a pack. The list lengths has n numbers from 0 to 496. count is the count of its numbers and not of
+ * its bytes, for an array sizeof lengths / sizeof lengths[0]. The payload of block i, counted from 0, is its first
+ * lengths[i] bytes; what stands behind them has no effect, is overwritten, and may never have been written.
  *
  * Answers BOARDS_DONE: block i is the one that boards_seal makes of its payload for the place first + i.
  * Answers 1, 10, 11, 5 or 6, the first of them that applies, in this order (BOARDS_WRONG_KEY_SIZE,
@@ -202,10 +211,10 @@ uint32_t boards_seal_run(const uint8_t *key, size_t key_length, uint64_t pack, u
                          const uint16_t *lengths, size_t count, uint8_t *run, size_t run_length);
 
 /*
- * Opens a run of n blocks, 1 to 128, in place, with the key, the pack and the places first to first + n - 1 that they
- * were sealed for. The list lengths has room for n numbers; what it held has no effect. count is the count of its
- * numbers and not of its bytes, for an array sizeof lengths / sizeof lengths[0]. failed points to a uint32_t, and must
- * not be NULL.
+ * Opens a run of n blocks, 1 to 128, in place, with the key (16 or 32 bytes), the pack and the places first to
+ * first + n - 1 that they were sealed for. The list lengths has room for n numbers; what it held has no effect. count
+ * is the count of its numbers and not of its bytes, for an array sizeof lengths / sizeof lengths[0]. failed points to a
+ * uint32_t, and must not be NULL.
  *
  * Answers BOARDS_DONE: block i is the plain block that boards_open leaves for the place first + i, and lengths[i] is
  * the length of its payload.
@@ -228,7 +237,7 @@ static inline size_t boards_payload_length(const uint8_t *block) {
 static inline const char *boards_reason(uint32_t number) {
     switch (number) {
     case BOARDS_DONE: return "the work is done";
-    case BOARDS_WRONG_KEY_SIZE: return "the key is not 16 bytes long";
+    case BOARDS_WRONG_KEY_SIZE: return "the key is neither 16 nor 32 bytes long";
     case BOARDS_WRONG_TWEAK_SIZE: return "the tweak is not 16 bytes long";
     case BOARDS_DATA_TOO_SHORT: return "the board is shorter than 16 bytes";
     case BOARDS_DATA_TOO_LONG: return "the board is longer than 4,096 bytes";

@@ -1,6 +1,6 @@
 #include "call.h"
-#include "library.h"
 #include "report.h"
+#include "table.h"
 #include <boards.h>
 #include <errno.h>
 #include <inttypes.h>
@@ -47,19 +47,23 @@ static position aligned(position where, int size) {
 }
 
 uint32_t answer(const call *c) {
+    calls++;
+    return answer_of(&boards, c);
+}
+
+uint32_t answer_of(const library *l, const call *c) {
     const slice *k = &c->key, *t = &c->tweak, *p = &c->payload;
     uint8_t *d = (uint8_t *)c->data.bytes; /* the one slice that is written, but by FIND */
     uint16_t *numbers = (uint16_t *)c->list.bytes; /* and OPEN_RUN writes these */
     size_t length = c->data.length, count = c->list.length / sizeof *numbers + c->more;
-    calls++;
     switch (c->name) {
-    case ENCIPHER: return boards.encipher(k->bytes, k->length, t->bytes, t->length, d, length);
-    case DECIPHER: return boards.decipher(k->bytes, k->length, t->bytes, t->length, d, length);
-    case SEAL: return boards.seal(k->bytes, k->length, p->bytes, p->length, c->pack, c->place, d, length);
-    case OPEN: return boards.open(k->bytes, k->length, c->pack, c->place, d, length);
-    case FIND: return boards.find(d, length, c->place);
-    case SEAL_RUN: return boards.seal_run(k->bytes, k->length, c->pack, c->place, numbers, count, d, length);
-    default: return boards.open_run(k->bytes, k->length, c->pack, c->place, numbers, count, d, length, c->failed);
+    case ENCIPHER: return l->encipher(k->bytes, k->length, t->bytes, t->length, d, length);
+    case DECIPHER: return l->decipher(k->bytes, k->length, t->bytes, t->length, d, length);
+    case SEAL: return l->seal(k->bytes, k->length, p->bytes, p->length, c->pack, c->place, d, length);
+    case OPEN: return l->open(k->bytes, k->length, c->pack, c->place, d, length);
+    case FIND: return l->find(d, length, c->place);
+    case SEAL_RUN: return l->seal_run(k->bytes, k->length, c->pack, c->place, numbers, count, d, length);
+    default: return l->open_run(k->bytes, k->length, c->pack, c->place, numbers, count, d, length, c->failed);
     }
 }
 
@@ -179,4 +183,14 @@ void fill(uint8_t *bytes, size_t length, uint32_t seed) {
         state ^= state << 5;
         bytes[i] = (uint8_t)(state >> 11);
     }
+}
+
+slice key_of(size_t length) {
+    static uint8_t bytes[LONGEST_KEY];
+    fill(bytes, LONGEST_KEY, 1);
+    return (slice){bytes, length};
+}
+
+void under_each_key(void (*work)(slice key)) {
+    for (int i = 0; i < KEYS; i++) work(key_of(key_lengths[i]));
 }

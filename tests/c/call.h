@@ -3,6 +3,7 @@
 #define CALL_H
 
 #include "lent.h"
+#include "library.h"
 
 typedef enum { ENCIPHER, DECIPHER, SEAL, OPEN, FIND, SEAL_RUN, OPEN_RUN, FUNCTIONS } function;
 
@@ -37,6 +38,9 @@ extern unsigned long calls;
 /* Makes the call on the very bytes that it names, and compares nothing. */
 uint32_t answer(const call *c);
 
+/* The same by another library than the one under test. */
+uint32_t answer_of(const library *l, const call *c);
+
 /* Makes the call on copies that stand at this position, and compares. */
 void hold_at(const call *c, position where);
 
@@ -45,5 +49,12 @@ void hold(const call *c);
 
 /* Bytes without a pattern, the same ones for the same seed. */
 void fill(uint8_t *bytes, size_t length, uint32_t seed);
+
+/* A key of so many bytes, up to LONGEST_KEY. A longer one begins with the shorter ones. */
+enum { LONGEST_KEY = 288 };
+slice key_of(size_t length);
+
+/* The work under a good key of each length. */
+void under_each_key(void (*work)(slice key));
 
 #endif

@@ -5,6 +5,7 @@ A case is a line, one call, and cases.c has its fields. What the reference
 enciphers or seals serves both directions, since it is slow.
 """
 
+import functools
 import itertools
 import random
 
@@ -16,6 +17,8 @@ from cases_runs import entries
 from harness import ROOT
 from hch import Refused
 from pack import LAST_PLACE, MOST, SIZE, plain_block, seal
+
+KEYS = 16, 32  # bytes: "accept 16 or 32 bytes"
 
 # Up to three blocks and a byte, about 512 bytes and about 4,096.
 LENGTHS = [*range(50), *range(495, 514), *range(4080, 4113)]
@@ -107,26 +110,41 @@ def opening_run(key, pack, place, lengths, run):
                 lengths_after=left and entries(left), failed=failed)
 
 
-def data_lengths(rng):
+def under_each_key(group):
+    """The cases of a group that is given the length of its keys, for each."""
+    @functools.wraps(group)
+    def cases(rng):
+        for k in KEYS:
+            yield from group(rng, k)
+    return cases
+
+
+@under_each_key
+def data_lengths(rng, k):
     for length in LENGTHS:
-        yield from both(rng.randbytes(16), rng.randbytes(16),
+        yield from both(rng.randbytes(k), rng.randbytes(16),
                         rng.randbytes(length))
 
 
-def key_and_tweak_lengths(rng):
-    for length in range(34):
-        some, good, board, block = map(rng.randbytes, (length, 16, 40, SIZE))
-        yield from both(some, good, board)
+@under_each_key
+def key_and_tweak_lengths(rng, k):
+    for length in (*range(35), 48, 64, 272, 288):
+        some, good, tweak, board, block = map(
+            rng.randbytes, (length, k, 16, 40, SIZE))
+        yield from both(some, tweak, board)
         yield from both(good, some, board)
         yield from both(some, some, board)
         yield sealing(some, board, 1, 2, block)
-        key = some if length == 16 else good
+        key = some if length in KEYS else good
         yield opening(some, 1, 2, seal(key, board, 1, 2))
 
 
 def payloads(rng):
+    """Even lengths under short keys, and odd ones under long keys: the client
+    itself seals and opens each length under both."""
     for length in range(501):
-        key, payload, block = map(rng.randbytes, (16, length, SIZE))
+        k = KEYS[length % 2]
+        key, payload, block = map(rng.randbytes, (k, length, SIZE))
         pack, place = rng.getrandbits(64), rng.getrandbits(16)
         if length <= MOST:
             yield from pair(key, payload, pack, place, block)
@@ -134,9 +152,10 @@ def payloads(rng):
             yield sealing(key, payload, pack, place, block)
 
 
-def lent_blocks(rng):
+@under_each_key
+def lent_blocks(rng, k):
     """For opening, a good block cut short, or with others behind it."""
-    key, payload = rng.randbytes(16), rng.randbytes(77)
+    key, payload = rng.randbytes(k), rng.randbytes(77)
     pack, place = rng.getrandbits(64), rng.getrandbits(16)
     good = seal(key, payload, pack, place)
     for length in LENGTHS:
@@ -144,10 +163,11 @@ def lent_blocks(rng):
         yield opening(key, pack, place, (9 * good)[:length])
 
 
-def places_and_packs(rng):
+@under_each_key
+def places_and_packs(rng, k):
     """For opening at a place over 65,535, a block that would pass its check,
     which is looked at last."""
-    key = rng.randbytes(16)
+    key = rng.randbytes(k)
     for length, pack, place in itertools.product((0, 20, MOST), PACKS, PLACES):
         payload, block = rng.randbytes(length), rng.randbytes(SIZE)
         if place <= LAST_PLACE:
@@ -158,17 +178,20 @@ def places_and_packs(rng):
                 key, pack, place, plain_block(payload, pack, place)))
 
 
-def wrong_blocks(rng):
-    """Blocks of another place, pack or key, and such as decipher to a plain
-    block with one part of its check wrong."""
-    key, payload, full = map(rng.randbytes, (16, 20, MOST))
+@under_each_key
+def wrong_blocks(rng, k):
+    """Blocks of another place, pack or key, be it the same one twice or its
+    first half, and such as decipher to a plain block with one part of its
+    check wrong."""
+    key, payload, full = map(rng.randbytes, (k, 20, MOST))
     pack, place = rng.getrandbits(64), 3
     good = seal(key, payload, pack, place)
     yield opening(key, pack, place, good)
     yield opening(key, pack, 4, good)
     yield opening(key, pack ^ 1, place, good)
     yield opening(key, pack ^ 1 << 63, place, good)
-    yield opening(rng.randbytes(16), pack, place, good)
+    for other in (rng.randbytes(k), (2 * key)[:sum(KEYS) - k]):
+        yield opening(other, pack, place, good)
 
     plain, filled = (plain_block(used, pack, place)
                      for used in (payload, full))
@@ -182,12 +205,14 @@ def wrong_blocks(rng):
         yield opening(key, pack, place, by_hand(key, pack, place, block))
 
 
-def refusals(rng):
+@under_each_key
+def refusals(rng, k):
     """All the conditions together, each of them met or not."""
-    good = rng.randbytes(16)
-    keys = [rng.randbytes(15), good, rng.randbytes(17)]
-    for key, other, length in itertools.product(keys, keys, (15, 16, 4097)):
-        yield from both(key, other, rng.randbytes(length))
+    good = rng.randbytes(k)
+    keys = [good[:-1], good, good + good[:1]]
+    tweaks = [rng.randbytes(length) for length in (15, 16, 17)]
+    for key, tweak, length in itertools.product(keys, tweaks, (15, 16, 4097)):
+        yield from both(key, tweak, rng.randbytes(length))
     block = seal(good, b"ABC", 1, 3)
     for key, length, used, place in itertools.product(
             keys, (511, SIZE, 513), (MOST, MOST + 1), (3, 65536 + 3)):

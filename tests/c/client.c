@@ -7,8 +7,8 @@ static const struct {
     const char *name;
     void (*run)(void);
 } groups[] = {
-    {"cases", cases},   {"order", order},   {"opening", opening}, {"finding", finding}, {"runs", runs},
-    {"slices", slices}, {"header", header}, {"threads", threads}, {"wrong", wrong},
+    {"cases", cases},   {"order", order}, {"opening", opening}, {"finding", finding}, {"runs", runs},   {"keys", keys},
+    {"slices", slices}, {"stack", stack}, {"header", header},   {"threads", threads}, {"wrong", wrong},
 };
 
 int main(int count, char **arguments) {

@@ -1,40 +1,43 @@
-// A program in C++ that calls every function of the header, so that each is seen to link there too.
+// A program in C++ that calls every function of the header, so that each is seen to link there too, under a key of each
+// length.
 #include <boards.h>
 
 #include <cstdio>
 #include <cstring>
+
+static const uint8_t key[BOARDS_LONG_KEY_SIZE] = {1};
 
 static bool said(const char *what) {
     std::printf("%s\n", what);
     return false;
 }
 
-static bool hch() {
-    const uint8_t key[BOARDS_KEY_SIZE] = {1}, tweak[BOARDS_TWEAK_SIZE] = {2};
+static bool hch(size_t k) {
+    const uint8_t tweak[BOARDS_TWEAK_SIZE] = {2};
     uint8_t board[20] = {3};
     uint8_t same[20] = {3};
-    if (boards_encipher(key, sizeof key, tweak, sizeof tweak, board, sizeof board) != BOARDS_DONE)
+    if (boards_encipher(key, k, tweak, sizeof tweak, board, sizeof board) != BOARDS_DONE)
         return said("not enciphered");
     if (std::memcmp(board, same, sizeof board) == 0) return said("enciphered to itself");
-    if (boards_decipher(key, sizeof key, tweak, sizeof tweak, board, sizeof board) != BOARDS_DONE)
+    if (boards_decipher(key, k, tweak, sizeof tweak, board, sizeof board) != BOARDS_DONE)
         return said("not deciphered");
     return std::memcmp(board, same, sizeof board) == 0 || said("deciphered to another board");
 }
 
-static bool block() {
-    const uint8_t key[BOARDS_KEY_SIZE] = {1}, payload[3] = {0x41, 0x42, 0x43};
+static bool block(size_t k) {
+    const uint8_t payload[3] = {0x41, 0x42, 0x43};
     uint8_t block[BOARDS_BLOCK_SIZE];
-    if (boards_seal(key, sizeof key, payload, sizeof payload, 1, 3, block, sizeof block) != BOARDS_DONE)
+    if (boards_seal(key, k, payload, sizeof payload, 1, 3, block, sizeof block) != BOARDS_DONE)
         return said("not sealed");
-    if (boards_open(key, sizeof key, 1, 4, block, sizeof block) != BOARDS_CHECK_FAILED)
+    if (boards_open(key, k, 1, 4, block, sizeof block) != BOARDS_CHECK_FAILED)
         return said("opened as another place");
-    if (boards_open(key, sizeof key, 1, 3, block, sizeof block) != BOARDS_DONE) return said("not opened");
+    if (boards_open(key, k, 1, 3, block, sizeof block) != BOARDS_DONE) return said("not opened");
     if (boards_payload_length(block) != sizeof payload) return said("another length");
     return std::memcmp(block, payload, sizeof payload) == 0 || said("another payload");
 }
 
-static bool pack() {
-    const uint8_t key[BOARDS_KEY_SIZE] = {1}, payload[3] = {0x41, 0x42, 0x43};
+static bool pack(size_t k) {
+    const uint8_t payload[3] = {0x41, 0x42, 0x43};
     uint8_t pack[3 * BOARDS_BLOCK_SIZE] = {0};
     const uint8_t *same = pack;
     if (boards_find(pack, sizeof pack - 1, 3) != BOARDS_WRONG_PACK_SIZE) return said("found in no whole blocks");
@@ -42,33 +45,34 @@ static bool pack() {
     if (boards_find(pack, sizeof pack, 2) != BOARDS_DONE) return said("not found");
     uint8_t *part = boards_part(pack, 2);
     if (part != pack + 1024 || boards_const_part(same, 2) != part) return said("found elsewhere");
-    if (boards_seal(key, sizeof key, payload, sizeof payload, 1, 2, part, BOARDS_BLOCK_SIZE) != BOARDS_DONE)
+    if (boards_seal(key, k, payload, sizeof payload, 1, 2, part, BOARDS_BLOCK_SIZE) != BOARDS_DONE)
         return said("not sealed in the pack");
-    return boards_open(key, sizeof key, 1, 2, part, BOARDS_BLOCK_SIZE) == BOARDS_DONE || said("not opened in the pack");
+    return boards_open(key, k, 1, 2, part, BOARDS_BLOCK_SIZE) == BOARDS_DONE || said("not opened in the pack");
 }
 
-static bool run() {
-    const uint8_t key[BOARDS_KEY_SIZE] = {1};
+static bool run(size_t k) {
     const uint16_t lengths[3] = {0, 496, 3};
     uint8_t run[3 * BOARDS_BLOCK_SIZE] = {0};
     uint16_t opened[3] = {0, 0, 0};
     uint32_t failed = 0;
-    if (boards_seal_run(key, sizeof key, 1, 7, lengths, 2, run, sizeof run) != BOARDS_WRONG_LIST_SIZE)
+    if (boards_seal_run(key, k, 1, 7, lengths, 2, run, sizeof run) != BOARDS_WRONG_LIST_SIZE)
         return said("sealed by a list that is too short");
-    if (boards_seal_run(key, sizeof key, 1, 7, lengths, 3, run, sizeof run) != BOARDS_DONE)
+    if (boards_seal_run(key, k, 1, 7, lengths, 3, run, sizeof run) != BOARDS_DONE)
         return said("a run is not sealed");
     run[2 * BOARDS_BLOCK_SIZE] ^= 1;
-    if (boards_open_run(key, sizeof key, 1, 7, opened, 3, run, sizeof run, &failed) != BOARDS_CHECK_FAILED)
+    if (boards_open_run(key, k, 1, 7, opened, 3, run, sizeof run, &failed) != BOARDS_CHECK_FAILED)
         return said("a damaged run is opened");
     if (failed != 9) return said("another place failed");
     run[2 * BOARDS_BLOCK_SIZE] ^= 1;
-    if (boards_open_run(key, sizeof key, 1, 7, opened, 3, run, sizeof run, &failed) != BOARDS_DONE)
+    if (boards_open_run(key, k, 1, 7, opened, 3, run, sizeof run, &failed) != BOARDS_DONE)
         return said("a run is not opened");
     return std::memcmp(opened, lengths, sizeof opened) == 0 || said("other lengths");
 }
 
+static bool all(size_t k) { return hch(k) && block(k) && pack(k) && run(k); }
+
 int main() {
-    if (!hch() || !block() || !pack() || !run()) return 1;
+    if (!all(BOARDS_KEY_SIZE) || !all(BOARDS_LONG_KEY_SIZE)) return 1;
     std::printf("%s\n", boards_reason(BOARDS_DONE));
     return 0;
 }

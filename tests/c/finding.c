@@ -11,7 +11,8 @@
 enum { SIZE = 512, MOST = 128, ROOM = 130 * SIZE + 1 };
 
 static const uint64_t pack_number = 0x0123456789abcdef;
-static uint8_t key[16], some[ROOM];
+static slice key;
+static uint8_t some[ROOM];
 
 /* The edges, written out. */
 static const struct {
@@ -79,12 +80,12 @@ static void seal_at(uint8_t *block, uint32_t place, uint32_t seed) {
     uint8_t payload[497];
     size_t used = seed * 53 % 497;
     fill(payload, used, seed);
-    uint32_t number = boards.seal(key, 16, payload, used, pack_number, place, block, SIZE);
+    uint32_t number = boards.seal(key.bytes, key.length, payload, used, pack_number, place, block, SIZE);
     if (number != 0) DIFFERS("the block of place %" PRIu32 " is not sealed: %" PRIu32, place, number);
 }
 
 static void open_at(uint8_t *block, uint32_t place) {
-    uint32_t number = boards.open(key, 16, pack_number, place, block, SIZE);
+    uint32_t number = boards.open(key.bytes, key.length, pack_number, place, block, SIZE);
     if (number != 0) DIFFERS("the block of place %" PRIu32 " is not opened: %" PRIu32, place, number);
 }
 
@@ -121,18 +122,22 @@ static void hold_parts(uint32_t n, position where) {
     }
 }
 
-void finding(void) {
+static void hold_packs(slice k) {
     static const uint32_t counts[] = {1, 2, 3, MOST - 1, MOST};
-    fill(key, 16, 1);
-    fill(some, ROOM, 2);
-    hold_edges();
-    hold_lengths();
-    hold_no_memory();
-    lent_map(&pack, "pack", ROOM);
+    key = k;
     for (size_t i = 0; i < COUNT(counts); i++) {
         hold_parts(counts[i], FRONT);
         hold_parts(counts[i], END);
     }
     hold_parts(3, (position)5);
+}
+
+void finding(void) {
+    fill(some, ROOM, 2);
+    hold_edges();
+    hold_lengths();
+    hold_no_memory();
+    lent_map(&pack, "pack", ROOM);
+    under_each_key(hold_packs);
     printf("%lu calls\n", calls);
 }

@@ -9,7 +9,9 @@ void order(void);   /* the order of the refusals */
 void opening(void); /* blocks that do not open */
 void finding(void); /* the blocks of a pack, found by their places */
 void runs(void);    /* runs of blocks, sealed and opened in one call */
+void keys(void);    /* keys of both lengths and of others */
 void slices(void);  /* where the bytes stand, and how many they are */
+void stack(void);   /* how much stack a call takes */
 void header(void);  /* the constants and the sentences of the header */
 void threads(void); /* eight threads at once */
 void wrong(void);   /* wrong libraries, each of which one of the groups above has to report */

@@ -14,7 +14,9 @@ ALONE = {
     "order": "the order of refusals", "opening": "blocks that do not open",
     "finding": "blocks found in a pack",
     "runs": "runs of blocks",
+    "keys": "keys of both lengths and of others",
     "slices": "where the lent bytes stand",
+    "stack": "the stack that a call takes",
     "header": "the header's constants and sentences",
     "threads": "eight threads", "wrong": "wrong libraries",
 }
@@ -83,6 +85,7 @@ def spoilt(line):
         yield from left_otherwise(LIST, LIST_AFTER)
     if fields[NUMBER] == "0":
         yield but(KEY, other(fields[KEY], 0))
+        yield but(KEY, other(fields[KEY], -1))
     yield fields[:-1]
     yield [*fields, "0"]
     yield but(KEY, f"{fields[KEY]}0")
@@ -91,12 +94,14 @@ def spoilt(line):
 
 
 def reports_spoilt(client, made):
-    """One call of each function for each of its numbers: the client has to
-    report each line that is spoilt."""
+    """One call of each function for each of its numbers, and for number 0
+    under a key of each length: the client has to report each line that is
+    spoilt."""
     chosen = {}
     for line in made.result():
         fields = line.split(" ")
-        chosen.setdefault((fields[0], fields[NUMBER]), line)
+        length = len(fields[KEY]) if fields[NUMBER] == "0" else None
+        chosen.setdefault((fields[0], fields[NUMBER], length), line)
     lines = [" ".join(fields) for line in chosen.values()
              for fields in spoilt(line)]
     for line in lines:

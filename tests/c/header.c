@@ -10,6 +10,7 @@ static const struct {
     unsigned long value, wanted;
 } constants[] = {
     {"BOARDS_KEY_SIZE", BOARDS_KEY_SIZE, 16},
+    {"BOARDS_LONG_KEY_SIZE", BOARDS_LONG_KEY_SIZE, 32},
     {"BOARDS_TWEAK_SIZE", BOARDS_TWEAK_SIZE, 16},
     {"BOARDS_DATA_MIN", BOARDS_DATA_MIN, 16},
     {"BOARDS_DATA_MAX", BOARDS_DATA_MAX, 4096},

@@ -1,52 +1,85 @@
 /* The order of the refusals: each alone, each two at once, and more, with every lent byte as it was. */
+#include "good.h"
 #include "groups.h"
-#include "library.h"
 #include "report.h"
 #include "table.h"
 #include <inttypes.h>
 
 enum { MOST = 8192 };
 
-static uint8_t some[3][MOST], sealed[MOST];
+static uint8_t some[2][MOST], sealed[KEYS][MOST];
 
 /* Bytes for a run that is too long, of which the first two blocks are sealed for the places 3 and 4; and lists, of
-   which the second has a number over 496. */
-static uint8_t run[129 * 512];
+   which the second has a number over 496. Blocks are sealed under a key of each length. */
+static uint8_t run[KEYS][129 * SIZE];
 static uint16_t lists[2][129];
 
-/* together[f][a][b] is set where a call of f was made with the conditions of both numbers. */
-static int together[FUNCTIONS][NUMBERS][NUMBERS];
+/* The lengths of keys that are tried; the group of keys has more. */
+static const size_t keys_tried[] = {0, 1, 15, 16, 17, 24, 31, 32, 33, 64};
 
-static void note(const call *c, int damaged) {
-    for (uint32_t a = 1; a < NUMBERS; a++) {
-        for (uint32_t b = 1; b < NUMBERS; b++) {
-            if (applies(a, c, damaged) && applies(b, c, damaged)) together[c->name][a][b] = 1;
-        }
-    }
-}
+/* Which of the blocks that were sealed is for a key of this length. */
+static int sealed_for(size_t key_length) { return key_length == key_lengths[1]; }
 
 /* Makes the call if it is to be refused: what good calls leave is for the cases. */
 static void hold_refused(call *c, int damaged) {
     c->number = first(c, damaged);
     c->after = c->data.bytes;
     c->list_after = c->list.bytes;
-    if (c->number == 0) return;
-    note(c, damaged);
-    hold(c);
+    if (c->number != 0) hold(c);
+}
+
+/* Makes the number's condition hold. */
+static void spoil(call *c, uint32_t number) {
+    switch (number) {
+    case 1: c->key.length = 24; break;
+    case 2: c->tweak.length = 15; break;
+    case 3: c->data.length = 15; break;
+    case 4: c->data.length = 4097; break;
+    case 5: c->payload.length = 497, c->list.bytes = (const uint8_t *)lists[1]; break;
+    case 6: c->place = 65536; break;
+    case 7: c->data.length = 511; break;
+    case 8: c->pack ^= 1; break;
+    case 10: c->data.length++; break;
+    case 11: c->list.length = 2; break;
+    }
+}
+
+/* A call that is good but for these two numbers, which may be the same one; number 1 by each of the lengths above. */
+static void hold_two(const call *good, uint32_t a, uint32_t b) {
+    int damaged = a == 8 || b == 8;
+    call c = *good;
+    spoil(&c, a);
+    if (b != a) spoil(&c, b);
+    c.failed_place = c.place;
+    TRYING("numbers %" PRIu32 " and %" PRIu32 " at once", a, b);
+    if (!applies(a, &c, damaged) || !applies(b, &c, damaged)) DIFFERS("%s was not tried so", function_names[c.name]);
+    hold_refused(&c, damaged);
+    for (size_t i = 0; i < COUNT(keys_tried) && (a == 1 || b == 1); i++) {
+        c.key.length = keys_tried[i];
+        hold_refused(&c, damaged);
+    }
+}
+
+static void hold_pairs(slice key) {
+    call good[FUNCTIONS];
+    make_good(good, key);
+    for (int i = 0; i < FUNCTIONS * LOOKS * LOOKS; i++) {
+        int f = i / (LOOKS * LOOKS);
+        uint32_t a = looks[f][i / LOOKS % LOOKS], b = looks[f][i % LOOKS];
+        if (can_meet(a, b)) hold_two(&good[f], a, b);
+    }
 }
 
 static void refuse_hch(function name) {
     static const size_t lengths[] = {0, 1, 15, 16, 17, 4096, 4097, 4112};
-    call c = {.name = name, .key = {some[0], 0}, .tweak = {some[1], 0}, .data = {some[2], 0}};
-    for (size_t i = 0; i < COUNT(lengths); i++) {
-        c.data.length = lengths[i];
-        for (c.key.length = 0; c.key.length <= 33; c.key.length++) {
-            for (c.tweak.length = 0; c.tweak.length <= 33; c.tweak.length++) hold_refused(&c, 0);
-        }
+    call c = {.name = name, .key = key_of(0), .tweak = {some[0], 0}, .data = {some[1], 0}};
+    for (size_t i = 0; i < COUNT(lengths) * COUNT(keys_tried); i++) {
+        c.data.length = lengths[i / COUNT(keys_tried)];
+        c.key.length = keys_tried[i % COUNT(keys_tried)];
+        for (c.tweak.length = 0; c.tweak.length <= 33; c.tweak.length++) hold_refused(&c, 0);
     }
 }
 
-static const size_t keys[] = {0, 1, 15, 16, 17, 24, 32};
 static const size_t blocks[] = {0, 1, 15, 16, 496, 511, 512, 513, 1024, 4096, 4097};
 static const size_t payloads[] = {0, 1, 16, 495, 496, 497, 512, 4097};
 static const uint32_t places[] = {0, 3, 65535, 65536, 65539, 0x80000000, 0xffffffff};
@@ -59,10 +92,10 @@ static size_t take(size_t *i, size_t count) {
 }
 
 static void refuse_seal(void) {
-    call c = {.name = SEAL, .key = {some[0], 0}, .payload = {some[1], 0}, .data = {some[2], 0}, .pack = 1};
-    for (size_t i = 0; i < COUNT(keys) * COUNT(blocks) * COUNT(payloads) * COUNT(places); i++) {
+    call c = {.name = SEAL, .key = key_of(0), .payload = {some[0], 0}, .data = {some[1], 0}, .pack = 1};
+    for (size_t i = 0; i < COUNT(keys_tried) * COUNT(blocks) * COUNT(payloads) * COUNT(places); i++) {
         size_t rest = i;
-        c.key.length = keys[take(&rest, COUNT(keys))];
+        c.key.length = keys_tried[take(&rest, COUNT(keys_tried))];
         c.data.length = blocks[take(&rest, COUNT(blocks))];
         c.payload.length = payloads[take(&rest, COUNT(payloads))];
         c.place = places[rest];
@@ -72,20 +105,20 @@ static void refuse_seal(void) {
 
 /* The block is that of place 3, cut short or with bytes behind it where its length is another, or one of any bytes. */
 static void refuse_open(void) {
-    call c = {.name = OPEN, .key = {some[0], 0}, .pack = 1};
-    for (size_t i = 0; i < COUNT(keys) * COUNT(blocks) * COUNT(places) * 2; i++) {
+    call c = {.name = OPEN, .key = key_of(0), .pack = 1};
+    for (size_t i = 0; i < COUNT(keys_tried) * COUNT(blocks) * COUNT(places) * 2; i++) {
         size_t rest = i;
-        c.key.length = keys[take(&rest, COUNT(keys))];
+        c.key.length = keys_tried[take(&rest, COUNT(keys_tried))];
         c.data.length = blocks[take(&rest, COUNT(blocks))];
         c.place = places[take(&rest, COUNT(places))];
-        c.data.bytes = rest == 0 ? sealed : some[2];
+        c.data.bytes = rest == 0 ? sealed[sealed_for(c.key.length)] : some[1];
         hold_refused(&c, rest != 0 || c.place != 3);
     }
 }
 
 /* Packs as long as those blocks; the group of finding has all lengths of packs. */
 static void refuse_find(void) {
-    call c = {.name = FIND, .data = {some[2], 0}};
+    call c = {.name = FIND, .data = {some[1], 0}};
     for (size_t i = 0; i < COUNT(blocks) * COUNT(places); i++) {
         size_t rest = i;
         c.data.length = blocks[take(&rest, COUNT(blocks))];
@@ -99,11 +132,11 @@ static void refuse_run(function name) {
     static const size_t lengths[] = {0, 511, 512, 513, 1024, 65536, 66048};
     static const size_t counts[] = {0, 1, 2, 128, 129};
     static const uint32_t from[] = {3, 65408, 65409, 65535, 65536, 0xffffff80, 0xffffffff};
-    call c = {.name = name, .key = {some[0], 0}, .data = {run, 0}, .pack = 1};
-    for (size_t i = 0; i < COUNT(keys) * COUNT(lengths) * COUNT(counts) * COUNT(from) * COUNT(lists); i++) {
+    call c = {.name = name, .key = key_of(0), .pack = 1};
+    for (size_t i = 0; i < COUNT(keys_tried) * COUNT(lengths) * COUNT(counts) * COUNT(from) * COUNT(lists); i++) {
         size_t rest = i;
-        c.key.length = keys[take(&rest, COUNT(keys))];
-        c.data.length = lengths[take(&rest, COUNT(lengths))];
+        c.key.length = keys_tried[take(&rest, COUNT(keys_tried))];
+        c.data = (slice){run[sealed_for(c.key.length)], lengths[take(&rest, COUNT(lengths))]};
         c.list.length = 2 * counts[take(&rest, COUNT(counts))];
         c.place = from[take(&rest, COUNT(from))];
         c.list.bytes = (const uint8_t *)lists[rest];
@@ -112,30 +145,26 @@ static void refuse_run(function name) {
     }
 }
 
-/* Whether each two that can hold at once were tried at once: data is never both too short and too long. */
-static void check_pairs(void) {
-    for (int f = 0; f < FUNCTIONS; f++) {
-        for (int i = 0; i < LOOKS * LOOKS; i++) {
-            uint32_t a = looks[f][i / LOOKS], b = looks[f][i % LOOKS];
-            if (a == 0 || b == 0 || together[f][a][b] || (a == 3 && b == 4) || (a == 4 && b == 3)) continue;
-            DIFFERS("%s was not tried with numbers %" PRIu32 " and %" PRIu32 " at once", function_names[f], a, b);
-        }
-    }
+static void seal_for(slice key, uint32_t place, uint8_t *block) {
+    uint32_t number = boards.seal(key.bytes, key.length, some[0], 100, 1, place, block, SIZE);
+    if (number != 0) DIFFERS("a good payload is not sealed: %" PRIu32, number);
 }
 
-static void seal_for(uint32_t place, uint8_t *block) {
-    if (boards.seal(some[0], 16, some[1], 100, 1, place, block, 512) != 0) DIFFERS("a good payload is not sealed");
+static void make_sealed(slice key) {
+    int i = sealed_for(key.length);
+    fill(sealed[i], MOST, 3);
+    fill(run[i], sizeof run[i], 4);
+    seal_for(key, 3, sealed[i]);
+    seal_for(key, 3, run[i]);
+    seal_for(key, 4, run[i] + SIZE);
 }
 
 void order(void) {
-    TRYING("order of refusals");
-    for (uint32_t i = 0; i < 3; i++) fill(some[i], MOST, i);
-    fill(sealed, MOST, 3);
-    fill(run, sizeof run, 4);
-    seal_for(3, sealed);
-    seal_for(3, run);
-    seal_for(4, run + 512);
     lists[1][0] = 497;
+    under_each_key(hold_pairs);
+    TRYING("order of refusals");
+    for (uint32_t i = 0; i < 2; i++) fill(some[i], MOST, i);
+    under_each_key(make_sealed);
     refuse_find();
     refuse_open();
     refuse_seal();
@@ -143,6 +172,5 @@ void order(void) {
     refuse_hch(DECIPHER);
     refuse_run(SEAL_RUN);
     refuse_run(OPEN_RUN);
-    check_pairs();
     printf("%lu calls\n", calls);
 }

@@ -13,7 +13,7 @@ enum { SIZE = 512, MOST = 128, BLOCKS = 130, ROOM = BLOCKS * SIZE + 1 };
 #define LARGEST UINT32_MAX /* of places */
 
 static const uint64_t pack = 0x0123456789abcdef;
-static uint8_t key[16];
+static slice key;
 
 /* A run of which each payload stands at the front of its block, with any bytes behind it; the same run sealed and
    opened, block by block; and the list before it is opened and after that. */
@@ -22,9 +22,9 @@ static uint16_t any_numbers[BLOCKS], lengths[BLOCKS];
 
 static void make_block(uint32_t i, uint32_t place) {
     uint8_t *block = plain + SIZE * i;
-    uint32_t wrong = boards.seal(key, 16, before + SIZE * i, lengths[i], pack, place, block, SIZE);
+    uint32_t wrong = boards.seal(key.bytes, key.length, before + SIZE * i, lengths[i], pack, place, block, SIZE);
     memcpy(sealed + SIZE * i, block, SIZE);
-    wrong |= boards.open(key, 16, pack, place, block, SIZE);
+    wrong |= boards.open(key.bytes, key.length, pack, place, block, SIZE);
     if (wrong != 0 || boards_payload_length(block) != lengths[i]) DIFFERS("block %" PRIu32 " is not made", i);
     calls += 2;
 }
@@ -42,7 +42,7 @@ static void make(uint32_t n, uint32_t place, uint32_t seed) {
 /* The calls on the first bytes of the run that was made last, with the table's numbers. A call that is done leaves what
    the one-block calls leave. */
 static call sealing_of(size_t length, size_t count, uint32_t place) {
-    call c = {.name = SEAL_RUN, .key = {key, 16}, .data = {before, length}, .pack = pack, .place = place};
+    call c = {.name = SEAL_RUN, .key = key, .data = {before, length}, .pack = pack, .place = place};
     c.list = (slice){(const uint8_t *)lengths, 2 * count};
     c.number = first(&c, 0);
     c.after = c.number == 0 ? sealed : before;
@@ -50,7 +50,7 @@ static call sealing_of(size_t length, size_t count, uint32_t place) {
 }
 
 static call opening_of(const uint8_t *run, size_t length, size_t count, uint32_t place, int damaged) {
-    call c = {.name = OPEN_RUN, .key = {key, 16}, .data = {run, length}, .pack = pack, .place = place};
+    call c = {.name = OPEN_RUN, .key = key, .data = {run, length}, .pack = pack, .place = place};
     c.list = (slice){(const uint8_t *)any_numbers, 2 * count};
     c.number = first(&c, damaged);
     c.after = c.number == 0 ? plain : run;
@@ -185,16 +185,16 @@ static void hold_two(uint32_t n, uint32_t i, uint32_t j) {
 
 /* The blocks of a run for another key, pack or place: the first one fails. */
 static void hold_others(void) {
-    uint8_t other[16];
+    uint8_t other[32];
     TRYING("a run of another key, pack or place");
     make(3, 100, 6);
-    memcpy(other, key, 16);
-    other[15] ^= 1;
+    memcpy(other, key.bytes, key.length);
+    other[key.length - 1] ^= 1;
     call c = opening_of(sealed, 3 * SIZE, 3, 100, 1);
     c.failed_place = 100;
     c.key.bytes = other;
     hold(&c);
-    c.key.bytes = key;
+    c.key = key;
     c.pack = pack ^ (uint64_t)1 << 63;
     hold(&c);
     hold_failing(sealed, 3, 99, 99);
@@ -215,11 +215,10 @@ static void hold_changed(uint32_t n) {
     }
 }
 
-void runs(void) {
+static void hold_runs(slice k) {
     static const uint32_t counts[] = {1, 2, 3, 40, MOST - 1, MOST}, lists[] = {1, 2, 40, MOST};
     static const uint32_t pairs[][3] = {{2, 0, 1}, {3, 0, 2}, {3, 1, 2}, {40, 5, 20}, {40, 38, 39}, {MOST, 0, 127}};
-    fill(key, 16, 1);
-    fill((uint8_t *)any_numbers, sizeof any_numbers, 2);
+    key = k;
     hold_edges();
     hold_lengths();
     for (size_t i = 0; i < COUNT(lists); i++) {
@@ -237,5 +236,10 @@ void runs(void) {
     hold_numbers(40);
     hold_others();
     hold_changed(5);
+}
+
+void runs(void) {
+    fill((uint8_t *)any_numbers, sizeof any_numbers, 2);
+    under_each_key(hold_runs);
     printf("%lu calls\n", calls);
 }

@@ -25,8 +25,8 @@ from pack import LAST_PLACE, MOST, SIZE
 
 BLOCKS = 128  # the most that a pack has
 
-RNG = random.Random("save: a key and boards")
-KEY = RNG.randbytes(16)
+RNG = random.Random("save: keys and boards")
+KEYS = RNG.randbytes(16), RNG.randbytes(32)
 NUMBER = 0x0123456789abcdef
 BOARDS = {f"b{length}": RNG.randbytes(length)
           for length in (0, 1, 495, 496, 497, 992, 1236, 5000)}
@@ -78,16 +78,22 @@ class Desk:
     """A folder with a key file, the boards and room for a pack file, and the
     program, which is run there."""
 
-    def __init__(self, program, sentence, folder):
+    def __init__(self, program, sentence, folder, key):
         self.program, self.sentence = program, sentence
         self.folder = pathlib.Path(folder)
         self.pack = self.folder / "pack"
-        self.put("key", KEY)
+        self.key = key
+        self.put("key", key)
         for name, board in BOARDS.items():
             self.put(name, board)
 
     def put(self, name, data):
         (self.folder / name).write_bytes(data)
+
+    def sealed(self, contents, number=NUMBER, first=0):
+        """The blocks of these payloads, from a place on, by the reference."""
+        return b"".join(pack.seal(self.key, payload, number, place)
+                        for place, payload in enumerate(contents, first))
 
     def save(self, *arguments, key="key", number=NUMBER, pack="pack",
              **options):
@@ -250,9 +256,7 @@ def all_lengths(desk):
 def as_the_reference(desk):
     _, places = layout(BOARDS)
     desk.adds(BOARDS)
-    desk.keeps("add", b"".join(
-        pack.seal(KEY, payload, NUMBER, place)
-        for place, payload in enumerate(places)))
+    desk.keeps("add", desk.sealed(places))
 
 
 def three_blocks(desk):
@@ -296,7 +300,7 @@ def numbers(desk):
     """The least and the greatest pack number, and zeros in front."""
     for number in (0, 2**64 - 1):
         desk.adds({"b1": BOARDS["b1"]}, number=number)
-        desk.keeps("add", pack.seal(KEY, BOARDS["b1"], number, 0))
+        desk.keeps("add", desk.sealed([BOARDS["b1"]], number))
         desk.gives("000", BOARDS["b1"], number=f"00{number}")
         desk.pack.unlink()
 
@@ -319,8 +323,7 @@ def chapters(desk):
 def longest_chapter(desk):
     """128 boards, and 40 of a pack that begin within it."""
     boards = [bytes([i]) * (7 * i % MOST) for i in range(BLOCKS)]
-    desk.put("pack", b"".join(pack.seal(KEY, board, NUMBER, place)
-                              for place, board in enumerate(boards)))
+    desk.put("pack", desk.sealed(boards))
     desk.loads(0, boards)
     desk.loads(60, boards[60:100])
     desk.loads(BLOCKS - 1, boards[-1:])
@@ -438,11 +441,15 @@ def exchanged(desk):
 
 
 def other_key(desk):
+    """Another bit of the key, and a key of the other length: its first half,
+    or the same key twice."""
     desk.adds({"b1236": BOARDS["b1236"]})
-    desk.put("other", changed(KEY, 15))
-    desk.reports([8] * 3, key="other")
-    desk.gives_not(0, desk.refusal(8, 0), key="other")
-    desk.adds_not(desk.refusal(8, 2), key="other")
+    for other in (changed(desk.key, len(desk.key) - 1),
+                  desk.key[:16] if len(desk.key) == 32 else 2 * desk.key):
+        desk.put("other", other)
+        desk.reports([8] * 3, key="other")
+        desk.gives_not(0, desk.refusal(8, 0), key="other")
+        desk.adds_not(desk.refusal(8, 2), key="other")
     desk.adds({"b1": BOARDS["b1"]}, 3)
 
 
@@ -458,13 +465,13 @@ def other_number(desk):
 def key_lengths(desk):
     """A wrong key is told at once, whatever is to be done."""
     refusal = f"save: key: {desk.sentence[1]}\n"
-    for length in (0, 1, 15, 17, 32, 10000):
-        desk.put("key", (KEY * 625)[:length])
+    for length in (0, 1, 15, 17, 24, 31, 33, 64, 10000):
+        desk.put("key", (desk.key * 625)[:length])
         fails(desk.save("add", "b1"), refusal)
         desk.has_no_pack()
     desk.put("pack", b"")
-    for length in (15, 17):
-        desk.put("key", (KEY * 2)[:length])
+    for length in (len(desk.key) - 1, len(desk.key) + 1):
+        desk.put("key", (desk.key * 2)[:length])
         for command in (["add", "b1"], ["get", "0"], ["chapter", "0", "new"],
                         ["check"]):
             fails(desk.save(*command), refusal)
@@ -560,9 +567,7 @@ def longest_board(desk):
     fails(desk.save("add", "longer"), said(NO_ROOM, BLOCKS))
     desk.keeps("add", b"")
     desk.adds({"longest": board})
-    desk.keeps("add", b"".join(
-        pack.seal(KEY, payload, NUMBER, place)
-        for place, payload in enumerate(payloads(board))))
+    desk.keeps("add", desk.sealed(payloads(board)))
     desk.gives(0, board)
     desk.pack.unlink()
     says(desk.save("add", "b1", "longest", "b1"),
@@ -574,8 +579,8 @@ def longest_board(desk):
 def too_long(desk):
     """128 blocks, a byte less and a byte more, 129 blocks and longer files;
     not every file system has the longest."""
-    blocks = [pack.seal(KEY, b"", NUMBER, place) for place in range(BLOCKS)]
-    good, next_block = b"".join(blocks), pack.seal(KEY, b"", NUMBER, BLOCKS)
+    good = desk.sealed([b""] * BLOCKS)
+    next_block = desk.sealed([b""], first=BLOCKS)
     desk.put("pack", good)
     desk.reports([0] * BLOCKS)
     desk.put("pack", good[:-1])
@@ -648,7 +653,7 @@ def many_at_once(desk):
         processes = [stack.enter_context(
             desk.begins("add", name, key="/dev/stdin")) for name in boards]
         for process in processes:
-            process.stdin.write(KEY)
+            process.stdin.write(desk.key)
         for process in processes:
             process.stdin.close()
         results = [finished(process) for process in processes]
@@ -798,8 +803,11 @@ def builds(prefix, cc, program):
 
 
 def at_a_desk(run, program, prefix):
-    with tempfile.TemporaryDirectory() as folder:
-        return run(Desk(program, sentences(prefix), folder))
+    """At a desk with a key of each length in turn."""
+    for key in KEYS:
+        with tempfile.TemporaryDirectory() as folder:
+            note = run(Desk(program, sentences(prefix), folder, key))
+    return note
 
 
 def runs(prefix, cc):

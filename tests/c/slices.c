@@ -1,66 +1,19 @@
 /* Where the lent bytes stand, and how many they are: any address, slices that share bytes where they may, what is
    empty, and lengths that would be good ones if only their last bits counted. */
 #define _DEFAULT_SOURCE
+#include "good.h"
 #include "groups.h"
-#include "library.h"
 #include "report.h"
 #include "table.h"
 #include <inttypes.h>
 #include <string.h>
 #include <sys/mman.h>
 
-enum { BOARD = 1000, SIZE = 512, USED = 123, PACK = 3 * SIZE, RUN = 2 * SIZE }; /* bytes of what good calls are lent */
+static size_t longest;
 
-static uint8_t key[16], tweak[16], payload[SIZE], board[BOARD], enciphered[BOARD];
-static uint8_t block[SIZE], sealed[SIZE], plain[SIZE], pack[PACK];
-static uint8_t run[RUN], sealed_run[RUN], plain_run[RUN];
-static const uint16_t lengths[2] = {USED, 496}, any_numbers[2] = {7, 65535};
-static uint32_t failed;
-
-/* The good calls of a run, with what the one-block calls leave. */
-static void make_good_runs(call *seal, call *open) {
-    uint32_t wrong = 0;
-    fill(run, RUN, 8);
-    for (uint32_t i = 0; i < 2; i++) {
-        wrong |= boards.seal(key, 16, run + SIZE * i, lengths[i], 1, 2 + i, sealed_run + SIZE * i, SIZE);
-        memcpy(plain_run + SIZE * i, sealed_run + SIZE * i, SIZE);
-        wrong |= boards.open(key, 16, 1, 2 + i, plain_run + SIZE * i, SIZE);
-    }
-    if (wrong != 0) DIFFERS("a good block is refused");
-    *seal = (call){.name = SEAL_RUN, .key = {key, 16}, .data = {run, RUN}, .pack = 1, .place = 2, .after = sealed_run};
-    *open = (call){.name = OPEN_RUN, .key = {key, 16}, .data = {sealed_run, RUN}, .pack = 1, .place = 2};
-    seal->list = (slice){(const uint8_t *)lengths, sizeof lengths};
-    open->list = (slice){(const uint8_t *)any_numbers, sizeof any_numbers};
-    open->list_after = (const uint8_t *)lengths;
-    open->failed = &failed;
-    open->after = plain_run;
-}
-
-/* One good call of each function, with what the library itself leaves: the cases hold that to the reference. */
-static void make_good(call good[FUNCTIONS]) {
-    fill(key, sizeof key, 1);
-    fill(tweak, sizeof tweak, 2);
-    fill(payload, sizeof payload, 3);
-    fill(board, BOARD, 4);
-    fill(block, SIZE, 5);
-    fill(pack, PACK, 7);
-    memcpy(enciphered, board, BOARD);
-    uint32_t wrong = boards.encipher(key, 16, tweak, 16, enciphered, BOARD);
-    wrong |= boards.seal(key, 16, payload, USED, 1, 2, sealed, SIZE);
-    memcpy(plain, sealed, SIZE);
-    wrong |= boards.open(key, 16, 1, 2, plain, SIZE);
-    if (wrong != 0) DIFFERS("a good call is refused");
-    slice k = {key, 16}, t = {tweak, 16};
-    call all[FUNCTIONS] = {
-        {.name = ENCIPHER, .key = k, .tweak = t, .data = {board, BOARD}, .after = enciphered},
-        {.name = DECIPHER, .key = k, .tweak = t, .data = {enciphered, BOARD}, .after = board},
-        {.name = SEAL, .key = k, .payload = {payload, USED}, .data = {block, SIZE}, .pack = 1, .after = sealed},
-        {.name = OPEN, .key = k, .data = {sealed, SIZE}, .pack = 1, .after = plain, .payload_length = USED},
-        {.name = FIND, .data = {pack, PACK}, .after = pack},
-    };
-    make_good_runs(&all[SEAL_RUN], &all[OPEN_RUN]);
-    for (int f = SEAL; f < FUNCTIONS; f++) all[f].place = 2;
-    memcpy(good, all, sizeof all);
+/* What a function reads beside its key, if it does. */
+static slice *beside_key(call *c) {
+    return c->name == SEAL ? &c->payload : c->name < SEAL ? &c->tweak : &c->list;
 }
 
 static void hold_addresses(const call good[FUNCTIONS]) {
@@ -74,7 +27,10 @@ static void hold_addresses(const call good[FUNCTIONS]) {
 /* Each slice empty in turn, and all at once. An empty payload is sealed; everything else that is empty is refused. */
 static void hold_empty(const call good[FUNCTIONS]) {
     uint8_t empty_sealed[SIZE];
-    if (boards.seal(key, 16, NULL, 0, 1, 2, empty_sealed, SIZE) != 0) DIFFERS("an empty payload is not sealed");
+    call empty = good[SEAL];
+    empty.payload.length = 0;
+    empty.data.bytes = empty_sealed;
+    if (answer(&empty) != 0) DIFFERS("an empty payload is not sealed");
     for (int i = 0; i < FUNCTIONS * 32; i++) {
         TRYING("what is empty");
         call c = good[i / 32];
@@ -90,42 +46,24 @@ static void hold_empty(const call good[FUNCTIONS]) {
     }
 }
 
-/* The key, the tweak and the payload may overlap: the results are those of copies that stand apart. */
-static void hold_overlap(void) {
-    uint8_t all[SIZE], copy[SIZE], one[SIZE], other[SIZE];
-    TRYING("slices that are read share bytes");
-    fill(all, SIZE, 6);
-    memcpy(copy, all, SIZE);
-    for (size_t i = 0; i <= 16; i++) {
-        memcpy(one, board, SIZE);
-        memcpy(other, board, SIZE);
-        uint32_t wrong = boards.encipher(all + i, 16, all + 8, 16, one, SIZE);
-        wrong |= boards.encipher(all + i, 16, copy + 8, 16, other, SIZE);
-        if (wrong != 0 || memcmp(one, other, SIZE) != 0) DIFFERS("encipher, %zu and 8", i);
-        wrong = boards.seal(all + i, 16, all + 8, 300, 1, 2, one, SIZE);
-        wrong |= boards.seal(all + i, 16, copy + 8, 300, 1, 2, other, SIZE);
-        if (wrong != 0 || memcmp(one, other, SIZE) != 0) DIFFERS("seal, %zu and 8", i);
-        calls += 4;
-    }
-    if (memcmp(all, copy, SIZE) != 0) DIFFERS("what was to be read is changed");
-}
-
-/* So may the key and the list that a run is sealed by. */
-static void hold_run_overlap(void) {
-    uint16_t both[16];
-    uint8_t one[RUN], other[RUN], apart[16];
-    TRYING("a key and a list share bytes");
-    for (uint16_t i = 0; i < COUNT(both); i++) both[i] = 480 + i;
-    for (size_t i = 0; i <= 16; i++) {
-        const uint8_t *same = (const uint8_t *)both + i;
-        memcpy(apart, same, 16);
-        memcpy(one, run, RUN);
-        memcpy(other, run, RUN);
-        uint32_t wrong = boards.seal_run(same, 16, 1, 2, both + 7, 2, one, RUN);
-        wrong |= boards.seal_run(apart, 16, 1, 2, both + 7, 2, other, RUN);
-        if (wrong != 0 || memcmp(one, other, RUN) != 0) DIFFERS("seal_run, %zu and 14", i);
-        calls += 2;
-    }
+/* What is only read may overlap: a key, from this byte on, and what is read beside it, from byte 14 on, leave what they
+   leave where they stand apart. The string is one of numbers, so that a list can stand in it. */
+static void hold_overlap(const call *good, size_t key_at) {
+    uint16_t all[RUN], copy[RUN];
+    uint8_t one[RUN], other[RUN];
+    call together = *good, apart = *good;
+    TRYING("slices that are read share bytes, the key from %zu on", key_at);
+    for (uint16_t i = 0; i < RUN; i++) all[i] = copy[i] = 480 + i % 16;
+    together.key.bytes = apart.key.bytes = (const uint8_t *)all + key_at;
+    beside_key(&together)->bytes = (const uint8_t *)all + 14;
+    beside_key(&apart)->bytes = (const uint8_t *)copy + 14;
+    memcpy(one, good->data.bytes, good->data.length);
+    memcpy(other, good->data.bytes, good->data.length);
+    together.data.bytes = one;
+    apart.data.bytes = other;
+    uint32_t wrong = answer(&together) | answer(&apart);
+    if (wrong != 0 || memcmp(one, other, good->data.length) != 0) DIFFERS("%s differs", function_names[good->name]);
+    if (memcmp(all, copy, sizeof all) != 0) DIFFERS("%s has changed what was to be read", function_names[good->name]);
 }
 
 /* The call answers the table's number, and leaves its data as it was. */
@@ -136,7 +74,7 @@ static void hold_number(const call *c) {
     const char *name = function_names[c->name];
     if (number != first(c, 0)) DIFFERS("%s answers %" PRIu32 " in the place of %" PRIu32, name, number, first(c, 0));
     if (memcmp(c->data.bytes, before, SIZE) != 0) DIFFERS("%s has changed the data", name);
-    if (failed != 0) DIFFERS("%s has written *failed", name);
+    if (*c->failed != 0) DIFFERS("%s has written *failed", name);
 }
 
 /* Each slice in turn with so many bytes more than in a good call, from this one on. */
@@ -144,7 +82,7 @@ static void hold_longer(const call good[FUNCTIONS], const uint8_t *bytes, size_t
     TRYING("a slice with %zu bytes more than in a good call", more);
     for (int f = 0; f < FUNCTIONS; f++) {
         call with_key = good[f], with_other = good[f], with_data = good[f];
-        slice *other = f == SEAL ? &with_other.payload : f < SEAL ? &with_other.tweak : &with_other.list;
+        slice *other = beside_key(&with_other);
         with_key.key = (slice){bytes, with_key.key.length + more};
         *other = (slice){bytes, other->length + more};
         with_data.data = (slice){bytes, with_data.data.length + more};
@@ -156,13 +94,12 @@ static void hold_longer(const call good[FUNCTIONS], const uint8_t *bytes, size_t
 
 /* Lengths whose last 13 to 33 bits are those of a good one. So many bytes are no more than addresses until they are
    touched. */
-static size_t hold_lengths(const call good[FUNCTIONS]) {
+static void hold_lengths(const call good[FUNCTIONS]) {
 #if SIZE_MAX > UINT32_MAX
     static const size_t more[] = {1 << 13, 1 << 16, 1 << 24, (size_t)1 << 31, (size_t)1 << 32, (size_t)1 << 33};
 #else
     static const size_t more[] = {1 << 13, 1 << 16, 1 << 24};
 #endif
-    size_t longest = 0;
     for (size_t i = 0; i < COUNT(more); i++) {
         uint8_t *bytes =
             mmap(NULL, more[i] + PACK, PROT_READ | PROT_WRITE, MAP_PRIVATE | MAP_ANONYMOUS | MAP_NORESERVE, -1, 0);
@@ -171,17 +108,19 @@ static size_t hold_lengths(const call good[FUNCTIONS]) {
         munmap(bytes, more[i] + PACK);
         longest = more[i] + PACK;
     }
-    return longest;
+}
+
+static void hold_slices(slice key) {
+    static const function read_two[] = {ENCIPHER, DECIPHER, SEAL, SEAL_RUN};
+    call good[FUNCTIONS];
+    make_good(good, key);
+    hold_addresses(good);
+    hold_empty(good);
+    for (size_t i = 0; i < COUNT(read_two) * 33; i++) hold_overlap(&good[read_two[i / 33]], i % 33);
+    hold_lengths(good);
 }
 
 void slices(void) {
-    call good[FUNCTIONS];
-    TRYING("good calls");
-    make_good(good);
-    hold_addresses(good);
-    hold_empty(good);
-    hold_overlap();
-    hold_run_overlap();
-    size_t longest = hold_lengths(good);
+    under_each_key(hold_slices);
     printf("%lu calls, the longest slice of %zu bytes\n", calls, longest);
 }

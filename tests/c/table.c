@@ -1,8 +1,14 @@
 #include "table.h"
 
+const size_t key_lengths[KEYS] = {16, 32};
+
+int is_key(size_t length) { return length == key_lengths[0] || length == key_lengths[1]; }
+
 const uint32_t looks[FUNCTIONS][LOOKS] = {
     {1, 2, 3, 4}, {1, 2, 3, 4}, {1, 7, 5, 6}, {1, 7, 6, 8}, {10, 6}, {1, 10, 11, 5, 6}, {1, 10, 11, 6, 8},
 };
+
+int can_meet(uint32_t a, uint32_t b) { return a != 0 && b != 0 && !(a == 3 && b == 4) && !(a == 4 && b == 3); }
 
 /* "payload over 496 bytes"; of a run, any of them. */
 static int payload_too_long(const call *c) {
@@ -23,7 +29,7 @@ static int place_too_high(const call *c) {
 
 int applies(uint32_t number, const call *c, int damaged) {
     switch (number) {
-    case 1: return c->key.length != 16;
+    case 1: return !is_key(c->key.length);
     case 2: return c->tweak.length != 16;
     case 3: return c->data.length < 16;
     case 4: return c->data.length > 4096;

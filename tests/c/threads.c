@@ -4,8 +4,8 @@
 #define _POSIX_C_SOURCE 200809L
 #include "call.h"
 #include "groups.h"
-#include "library.h"
 #include "report.h"
+#include "table.h"
 #include <boards.h>
 #include <limits.h>
 #include <pthread.h>
@@ -29,43 +29,44 @@ typedef struct {
     uint32_t seed;
     pthread_barrier_t *start; /* NULL for the thread that works alone */
     uint8_t *signals;         /* a stack for them */
-    uint8_t key[16], tweak[16], payload[SIZE];
+    uint8_t key[32], tweak[16], payload[SIZE];
     result results[ROUNDS];
 } work;
 
 /* A run that is sealed, opened as that of another pack, which it is not, and opened. */
-static void do_run(const work *w, result *r, uint64_t pack, uint32_t place) {
+static void do_run(const work *w, size_t k, result *r, uint64_t pack, uint32_t place) {
     fill(r->run, RUN, w->seed);
     for (uint32_t i = 0; i < 3; i++) r->lengths[i] = (uint16_t)((place + 53 * i) % 497);
-    r->numbers[8] = boards.seal_run(w->key, 16, pack, place, r->lengths, 3, r->run, RUN);
-    r->numbers[9] = boards.open_run(w->key, 16, pack + 1, place, r->lengths, 3, r->run, RUN, &r->failed);
+    r->numbers[8] = boards.seal_run(w->key, k, pack, place, r->lengths, 3, r->run, RUN);
+    r->numbers[9] = boards.open_run(w->key, k, pack + 1, place, r->lengths, 3, r->run, RUN, &r->failed);
     memset(r->lengths, 0, sizeof r->lengths);
-    r->numbers[10] = boards.open_run(w->key, 16, pack, place, r->lengths, 3, r->run, RUN, &r->failed);
+    r->numbers[10] = boards.open_run(w->key, k, pack, place, r->lengths, 3, r->run, RUN, &r->failed);
 }
 
-/* Two boards, two blocks, two refusals, a block found in the pack and sealed there, and a run. */
+/* Two boards, two blocks, two refusals, a block found in the pack and sealed there, and a run; the key has the
+   other length in the next round and in the next thread. */
 static void do_round(work *w, uint32_t round) {
     result *r = &w->results[round];
     uint32_t seed = w->seed * ROUNDS + round, place = seed * 7 % 65534;
-    size_t length = 16 + seed * 977 % (BOARD - 15), used = seed * 53 % 497;
+    size_t k = key_lengths[(w->seed + round) % KEYS], length = 16 + seed * 977 % (BOARD - 15), used = seed * 53 % 497;
     uint64_t pack = (uint64_t)seed << 40 | seed;
     fill(w->key, sizeof w->key, seed);
     fill(w->tweak, sizeof w->tweak, seed + 1);
     fill(w->payload, sizeof w->payload, seed + 2);
     fill(r->enciphered, BOARD, seed + 3);
     fill(r->deciphered, BOARD, seed + 4);
-    r->numbers[0] = boards.encipher(w->key, 16, w->tweak, 16, r->enciphered, length);
-    r->numbers[1] = boards.decipher(w->key, 16, w->tweak, 16, r->deciphered, length);
-    r->numbers[2] = boards.seal(w->key, 16, w->payload, used, pack, place, r->sealed, SIZE);
+    r->numbers[0] = boards.encipher(w->key, k, w->tweak, 16, r->enciphered, length);
+    r->numbers[1] = boards.decipher(w->key, k, w->tweak, 16, r->deciphered, length);
+    r->numbers[2] = boards.seal(w->key, k, w->payload, used, pack, place, r->sealed, SIZE);
     memcpy(r->opened, r->sealed, SIZE);
-    r->numbers[3] = boards.open(w->key, 16, pack, place, r->opened, SIZE);
-    r->numbers[4] = boards.open(w->key, 16, pack + 1, place, r->sealed, SIZE);
-    r->numbers[5] = boards.encipher(w->key, 15, w->tweak, 16, r->enciphered, length);
+    r->numbers[3] = boards.open(w->key, k, pack, place, r->opened, SIZE);
+    r->numbers[4] = boards.open(w->key, k, pack + 1, place, r->sealed, SIZE);
+    r->numbers[5] = boards.encipher(w->key, k - 1, w->tweak, 16, r->enciphered, length);
     r->numbers[6] = boards.find(shared, sizeof shared, w->seed);
     uint8_t *part = boards_part(shared, w->seed);
-    r->numbers[7] = boards.seal(w->key, 16, w->payload, used, pack, w->seed, part, SIZE);
+    r->numbers[7] = boards.seal(w->key, k, w->payload, used, pack, w->seed, part, SIZE);
     memcpy(r->part, part, SIZE);
-    do_run(w, r, pack, place);
+    do_run(w, k, r, pack, place);
 }
 
 static void *do_work(void *given) {

@@ -14,7 +14,14 @@ typedef struct {
 /* The right functions, around which the wrong ones do one thing wrong. */
 extern library right;
 
+/* The group has to report this library, with both these words. TRYING has said what is wrong with it. */
+void expect_report(const library *l, void (*group)(void), const char *words, const char *more_words);
+
 /* The mistakes that can be made with runs, in wrong_runs.c; the last has no name. */
 extern const mistake run_mistakes[];
+
+/* Those that each function can make, in wrong_calls.c: what it takes for a key, and the order of its refusals. */
+void wrong_keys(void);
+void wrong_orders(void);
 
 #endif

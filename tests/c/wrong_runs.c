@@ -1,6 +1,7 @@
 /* Wrong libraries of runs. */
 #define _DEFAULT_SOURCE
 #include "groups.h"
+#include "table.h"
 #include "wrong.h"
 #include <boards.h>
 #include <errno.h>
@@ -21,43 +22,17 @@ static volatile uint8_t seen;
 #define OPEN key, k, pack, first, lengths, count, run, n, failed
 
 /* Whether neither 1 nor 10 applies, and the last place, which is not cut. */
-static int whole(size_t k, size_t n) { return k == 16 && n >= SIZE && n <= MOST * SIZE && n % SIZE == 0; }
+static int whole(size_t k, size_t n) { return is_key(k) && n >= SIZE && n <= MOST * SIZE && n % SIZE == 0; }
 
 static uint64_t last_place(uint32_t first, size_t n) { return first + (uint64_t)(n / SIZE) - 1; }
 
-static uint32_t open_block(const uint8_t *key, uint64_t pack, uint32_t place, uint8_t *block) {
-    return right.open(key, 16, pack, place, block, SIZE);
-}
-
-static uint32_t seal_block(const uint8_t *key, uint64_t pack, uint32_t place, uint8_t *block, size_t used) {
+static uint32_t seal_block(slice key, uint64_t pack, uint32_t place, uint8_t *block, size_t used) {
     uint8_t payload[496];
     memcpy(payload, block, used);
-    return right.seal(key, 16, payload, used, pack, place, block, SIZE);
+    return right.seal(key.bytes, key.length, payload, used, pack, place, block, SIZE);
 }
 
 /* Order and limits. */
-
-static uint32_t seal_run_before_key(SEAL_CALL) { return n % SIZE != 0 ? 10 : right.seal_run(SEAL); }
-
-static uint32_t seal_list_before_run(SEAL_CALL) { return k == 16 && count != n / SIZE ? 11 : right.seal_run(SEAL); }
-
-static uint32_t seal_number_before_list(SEAL_CALL) {
-    return whole(k, n) && count > 0 && lengths[0] > 496 ? 5 : right.seal_run(SEAL);
-}
-
-static uint32_t seal_place_before_number(SEAL_CALL) {
-    return whole(k, n) && count == n / SIZE && last_place(first, n) > 65535 ? 6 : right.seal_run(SEAL);
-}
-
-static uint32_t seal_place_before_list(SEAL_CALL) {
-    return whole(k, n) && last_place(first, n) > 65535 ? 6 : right.seal_run(SEAL);
-}
-
-static uint32_t open_list_before_run(OPEN_CALL) { return k == 16 && count != n / SIZE ? 11 : right.open_run(OPEN); }
-
-static uint32_t open_place_before_list(OPEN_CALL) {
-    return whole(k, n) && last_place(first, n) > 65535 ? 6 : right.open_run(OPEN);
-}
 
 static uint32_t open_block_before_place(OPEN_CALL) {
     uint32_t number = right.open_run(OPEN);
@@ -75,11 +50,11 @@ static uint32_t seal_cut_run(SEAL_CALL) {
     return right.seal_run(key, k, pack, first, lengths, count, run, n - n % SIZE);
 }
 
-static uint32_t open_129(OPEN_CALL) { return k == 16 && n == 129 * SIZE ? 8 : right.open_run(OPEN); }
+static uint32_t open_129(OPEN_CALL) { return is_key(k) && n == 129 * SIZE ? 8 : right.open_run(OPEN); }
 
-static uint32_t not_128(OPEN_CALL) { return k == 16 && n == MOST * SIZE ? 10 : right.open_run(OPEN); }
+static uint32_t not_128(OPEN_CALL) { return is_key(k) && n == MOST * SIZE ? 10 : right.open_run(OPEN); }
 
-static uint32_t seal_none(SEAL_CALL) { return k == 16 && n == 0 && count == 0 ? 0 : right.seal_run(SEAL); }
+static uint32_t seal_none(SEAL_CALL) { return is_key(k) && n == 0 && count == 0 ? 0 : right.seal_run(SEAL); }
 
 static uint32_t longer_list(SEAL_CALL) {
     return right.seal_run(key, k, pack, first, lengths, count > n / SIZE ? n / SIZE : count, run, n);
@@ -136,8 +111,8 @@ static uint32_t run_of_32_bits(OPEN_CALL) {
 static uint32_t seal_for_first(SEAL_CALL) {
     uint32_t number = right.seal_run(SEAL);
     for (size_t i = 1; number == 0 && i < count; i++) {
-        number = open_block(key, pack, first + (uint32_t)i, run + SIZE * i);
-        number |= seal_block(key, pack, first, run + SIZE * i, lengths[i]);
+        number = right.open(key, k, pack, first + (uint32_t)i, run + SIZE * i, SIZE);
+        number |= seal_block((slice){key, k}, pack, first, run + SIZE * i, lengths[i]);
     }
     return number;
 }
@@ -169,7 +144,7 @@ static uint32_t seal_496(SEAL_CALL) {
 static uint32_t seal_before_refusal(SEAL_CALL) {
     uint32_t number = right.seal_run(SEAL);
     for (size_t i = 0; number == 5 && lengths[i] <= 496; i++) {
-        number += seal_block(key, pack, first + (uint32_t)i, run + SIZE * i, lengths[i]);
+        number += seal_block((slice){key, k}, pack, first + (uint32_t)i, run + SIZE * i, lengths[i]);
     }
     return number;
 }
@@ -226,7 +201,7 @@ static uint32_t check_first_alone(OPEN_CALL) {
 static uint32_t leave_open(OPEN_CALL) {
     uint32_t number = right.open_run(OPEN);
     for (uint32_t place = first; number == 8 && place < *failed; place++) {
-        number += open_block(key, pack, place, run + SIZE * (place - first));
+        number += right.open(key, k, pack, place, run + SIZE * (place - first), SIZE);
     }
     return number;
 }
@@ -234,7 +209,7 @@ static uint32_t leave_open(OPEN_CALL) {
 static uint32_t leave_last_open(OPEN_CALL) {
     uint32_t number = right.open_run(OPEN);
     if (number == 8 && *failed > first) {
-        number += open_block(key, pack, *failed - 1, run + SIZE * (*failed - 1 - first));
+        number += right.open(key, k, pack, *failed - 1, run + SIZE * (*failed - 1 - first), SIZE);
     }
     return number;
 }
@@ -276,7 +251,7 @@ static uint32_t largest_place(OPEN_CALL) {
     uint32_t number = right.open_run(OPEN);
     for (uint32_t i = 0; number == 8 && i < n / SIZE; i++) {
         memcpy(block, run + SIZE * i, SIZE);
-        if (open_block(key, pack, first + i, block) == 8) *failed = first + i;
+        if (right.open(key, k, pack, first + i, block, SIZE) == 8) *failed = first + i;
     }
     return number;
 }
@@ -322,13 +297,6 @@ static uint32_t one_list_for_all(OPEN_CALL) {
 }
 
 const mistake run_mistakes[] = {
-    {"sealing a run, has 10 before 1", {.seal_run = seal_run_before_key}, order, "answers 10 in the place of 1"},
-    {"sealing a run, has 11 before 10", {.seal_run = seal_list_before_run}, order, "answers 11 in the place of 10"},
-    {"sealing a run, has 5 before 11", {.seal_run = seal_number_before_list}, order, "answers 5 in the place of 11"},
-    {"sealing a run, has 6 before 5", {.seal_run = seal_place_before_number}, order, "answers 6 in the place of 5"},
-    {"sealing a run, has 6 before 11", {.seal_run = seal_place_before_list}, order, "answers 6 in the place of 11"},
-    {"opening a run, has 11 before 10", {.open_run = open_list_before_run}, order, "answers 11 in the place of 10"},
-    {"opening a run, has 6 before 11", {.open_run = open_place_before_list}, order, "answers 6 in the place of 11"},
     {"opening a run, has 8 before 6", {.open_run = open_block_before_place}, order, "answers 8 in the place of 6"},
     {"opening a run, looks at the list's numbers", {.open_run = open_by_numbers}, runs, "answers 5 in the place of 8"},
     {"seals a run that is cut", {.seal_run = seal_cut_run}, runs, "run of 513)"},
