@@ -16,13 +16,15 @@ pub record Point3 : Type 0 where
   -- ---- "Key expansion must accept 16 or 32 bytes", and no other length. (In every call a key of neither length is number 1: Demand1 and Point2.)
   pub accepted : (key : List ℕ) → IsKey key → isKey key ≡ true
   pub not-accepted : (key : List ℕ) → (IsKey key → ⊥) → isKey key ≡ false
-  -- ---- "and say which it got, with 10 or 14 rounds as FIPS 197 has them". Of what is no key come zeros.
+  -- ---- "and say which it got, with 10 or 14 rounds as FIPS 197 has them".
   pub ten-rounds : (key : List ℕ) → length key ≡ 16 → expandedKey key .rounds ≡ 10
   pub fourteen-rounds : (key : List ℕ) → length key ≡ 32 → expandedKey key .rounds ≡ 14
-  pub no-rounds : (key : List ℕ) → (IsKey key → ⊥) → expandedKey key .rounds ≡ 0
   -- The words are KeyExpansion's, 44 with zeros behind them, or 60.
   pub words-of-16 : (key : List ℕ) → length key ≡ 16 → expandedKey key .words ≡ keyExpansion 4 key ++ replicate 16 0
   pub words-of-32 : (key : List ℕ) → length key ≡ 32 → expandedKey key .words ≡ keyExpansion 8 key
+  -- Of what is no key come zeros.
+  pub no-rounds : (key : List ℕ) → (IsKey key → ⊥) → expandedKey key .rounds ≡ 0
+  pub no-words : (key : List ℕ) → (IsKey key → ⊥) → expandedKey key .words ≡ replicate 60 0
   -- ---- "Everyone above must carry the longer expanded key": it stands for AES under the key, and HCH under it is HCH under the key.
   pub aes-carried : (key : List ℕ) → IsKey key → under (expandedKey key) ≡ aes key
   pub hch-carried : (key : List ℕ) → IsKey key → Same (hchUnder (expandedKey key)) [] hch key

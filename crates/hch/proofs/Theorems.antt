@@ -2,7 +2,8 @@
 -- Assumes nothing.
 use Prim.Native.Nat.{ℕ, _≤_}
 use mathlib.Core.Path.{_≡_}
-use mathlib.Core.List.{List, append-nil}
+use mathlib.Core.Bool.{true}
+use mathlib.Core.List.{List, [], append-nil}
 use native.Mathlib.Omega.{arith}
 use lib.Dec.{lit<}
 use lib.ListN.{length, drop-of-length-le}
@@ -14,10 +15,10 @@ use Rattle.blocks.specs.Field.{powerSum as powerSumOver}
 use Rattle.blocks.specs.BlockField.{timesX, powerSum}
 use Rattle.blocks.specs.Counter.{masked}
 use Rattle.strings.specs.One.{OnePreimage}
-use Rattle.strings.specs.Cipher.{Cipher}
+use Rattle.strings.specs.Cipher.{Cipher, Same}
 use Rattle.blocks.specs.BlockCipher.{BlockCipher, BlockPermutation}
 use Rattle.primitives.specs.Aes.{aes}
-use Rattle.primitives.specs.Expanded.{roundsDone, under}
+use Rattle.primitives.specs.Expanded.{expandedKey, under}
 use Rattle.primitives.specs.declared.aes.ExpandedKey.{ExpandedKey}
 use Rattle.strings.proofs.Xor.{xor-zero, xor-comm}
 use Rattle.strings.proofs.Bytes.{number-below}
@@ -26,7 +27,8 @@ use Rattle.strings.proofs.One.{one-preimage}
 use Rattle.blocks.proofs.Ring.{x-below, ring-of-blocks}
 use Rattle.blocks.proofs.Horner.{power-sum-below}
 use Rattle.primitives.proofs.Theorems as Aes
-use Rattle.hch.specs.Hch.{lengthBlock, H, Ctr, encipher, Parts, encipheredBy, decipheredBy, enciphered, deciphered}
+use Rattle.hch.specs.Hch.{lengthBlock, H, Ctr, encipher, Parts, encipheredBy, decipheredBy, enciphered, deciphered, hch}
+use Rattle.hch.specs.Expanded.{hchUnder}
 use Rattle.hch.specs.Theorems.{Theorems}
 use Rattle.hch.proofs.Scheme.{scheme-cipher}
 
@@ -47,7 +49,7 @@ by-cipher c p tweak n h l = scheme-cipher (own-parts c p) (number tweak) n (twea
 
 pub under-cipher : (expanded : ExpandedKey) (tweak : List ℕ) (n : ℕ) → OfLength 16 tweak → 16 ≤ n
     → Cipher n (encipheredBy (under expanded) tweak) (decipheredBy (under expanded) tweak)
-under-cipher expanded = by-cipher (under expanded) (Aes.theorems .words-permutation (roundsDone (expanded .rounds)) (expanded .words))
+under-cipher expanded = by-cipher (under expanded) (Aes.theorems .under-permutation expanded)
 
 pub hch-cipher : (key tweak : List ℕ) (n : ℕ) → OfLength 16 tweak → 16 ≤ n → Cipher n (enciphered key tweak) (deciphered key tweak)
 unfolding enciphered deciphered
@@ -56,6 +58,12 @@ hch-cipher key = by-cipher (aes key) (Aes.theorems .aes-permutation key)
 one-plaintext : (key tweak : List ℕ) (n : ℕ) → OfLength 16 tweak → 16 ≤ n
     → (C : List ℕ) → OfLength n C → OnePreimage n (enciphered key tweak) C (deciphered key tweak C)
 one-plaintext key tweak n h l C k = one-preimage (hch-cipher key tweak n h l) C k
+
+pub same-expanded : (key : List ℕ) → hch .isKey key ≡ true → Same (hchUnder (expandedKey key)) [] hch key
+unfolding enciphered deciphered
+same-expanded key k =
+    let same = Aes.theorems .expanded-aes key k in
+    record { takes = rw k; enciphers = rw same; deciphers = rw same }
 
 one-block : (E timesX : ℕ → ℕ) (T : ℕ) (P : List ℕ) → length P ≡ 16
     → let Q = E (E T ⊕ lengthBlock 16) in encipher E timesX powerSum T P ≡ bytes 16 (timesX Q ⊕ E (number P ⊕ Q))
@@ -74,4 +82,5 @@ theorems = record {
   permutation-one-plaintext = λ c p T n h l. one-preimage (scheme-cipher (own-parts c p) T n h l);
   hch-cipher = hch-cipher;
   one-plaintext = one-plaintext;
+  same-expanded = same-expanded;
 }

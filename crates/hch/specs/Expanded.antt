@@ -8,7 +8,7 @@ use Rattle.primitives.specs.Expanded.{under}
 use Rattle.primitives.specs.declared.aes.ExpandedKey.{ExpandedKey}
 use Rattle.hch.specs.Hch.{encipheredBy, decipheredBy}
 
--- With any words. The key is in the scheme: every string is taken for one, and none is looked at.
+-- With any expanded key. The key is in the scheme: every string is taken for one, and none is looked at.
 abbrev pub hchUnder : ExpandedKey → Scheme
 hchUnder expanded = record { isKey = λ key. true; encipher = λ key. encipheredBy (under expanded); decipher = λ key. decipheredBy (under expanded) }
 

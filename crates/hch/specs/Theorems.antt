@@ -1,16 +1,19 @@
 -- The theorems of this crate, each by name. One value of this record, proofs/Theorems.antt, proves them all.
 use Prim.Native.Nat.{ℕ, _≤_}
 use mathlib.Core.Path.{_≡_}
-use mathlib.Core.List.{List}
+use mathlib.Core.Bool.{true}
+use mathlib.Core.List.{List, []}
 use lib.ListN.{length}
 use Rattle.strings.specs.Xor.{_⊕_}
 use Rattle.strings.specs.Bytes.{OfLength, number, bytes}
 use Rattle.blocks.specs.BlockField.{timesX, powerSum}
 use Rattle.strings.specs.One.{OnePreimage}
-use Rattle.strings.specs.Cipher.{Cipher}
+use Rattle.strings.specs.Cipher.{Cipher, Same}
 use Rattle.blocks.specs.Blocks.{IsBlock}
 use Rattle.blocks.specs.BlockCipher.{BlockCipher, BlockPermutation}
-use Rattle.hch.specs.Hch.{lengthBlock, Parts, encipher, decipher, enciphered, deciphered}
+use Rattle.primitives.specs.Expanded.{expandedKey}
+use Rattle.hch.specs.Hch.{lengthBlock, Parts, encipher, decipher, enciphered, deciphered, hch}
+use Rattle.hch.specs.Expanded.{hchUnder}
 
 pub record Theorems : Type 0 where
   -- For every block permutation, step by x and keyed sum that keep blocks, every tweak and every n from 16 on: HCH keeps the messages of n bytes,
@@ -31,3 +34,5 @@ pub record Theorems : Type 0 where
   pub hch-cipher : (key tweak : List ℕ) (n : ℕ) → OfLength 16 tweak → 16 ≤ n → Cipher n (enciphered key tweak) (deciphered key tweak)
   pub one-plaintext : (key tweak : List ℕ) (n : ℕ) → OfLength 16 tweak → 16 ≤ n
       → (C : List ℕ) → OfLength n C → OnePreimage n (enciphered key tweak) C (deciphered key tweak C)
+  -- HCH under what is made of a key, of either length, is HCH under the key.
+  pub same-expanded : (key : List ℕ) → hch .isKey key ≡ true → Same (hchUnder (expandedKey key)) [] hch key

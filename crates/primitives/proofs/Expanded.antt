@@ -1,23 +1,20 @@
--- What is made of a key stands for AES under it: the zeros behind its words are not read.
+-- What is made of a key stands for AES under it: a zero behind its words is what reading past their end gives.
 -- Assumes nothing.
 use Prim.Native.Nat.{ℕ, zero, suc, _+_, _-_, _*_, _≤_}
 use mathlib.Core.Path.{_≡_, refl, ap}
-use mathlib.Core.Bool.{Bool, true, false, _||_}
+use mathlib.Core.Bool.{true}
 use mathlib.Core.List.{List, [], _∷_, _++_}
-use mathlib.Core.Logic.{_⊎_, inl, inr, ⊎-elim}
+use mathlib.Core.Logic.{⊎-elim}
 use native.Mathlib.Omega.{arith}
 use borrow.Author.Tests.{eqb-true}
 use lib.Dec.{eqb}
 use lib.ListN.{length, getD, replicate}
 use Rattle.strings.specs.Bytes.{number, bytes}
+use Rattle.strings.proofs.Refusals.{either}
 use Rattle.primitives.specs.Aes.{isKey, NkOf, Nr, keyExpansion, byteOf, state, roundKey, cipher, invCipher, encipher, decipher, aes}
 use Rattle.primitives.specs.Expanded.{expandedKey, roundsDone, under}
 
-either : (a b : Bool) → (a || b) ≡ true → (a ≡ true) ⊎ (b ≡ true)
-either true b e = inl refl
-either false b e = inr e
-
--- A key has 4 words, or 8.
+-- Both lengths are within 4 to 8 words, for which the expansion is proved.
 pub words-of-key : (key : List ℕ) → isKey key ≡ true → (4 ≤ NkOf key) × (NkOf key ≤ 8)
 unfolding isKey
 words-of-key key k =

@@ -1,5 +1,6 @@
 -- Every theorem of specs/Theorems.antt, from the laws beside this file.
 -- Assumes nothing.
+use Rattle.primitives.specs.Expanded.{roundsDone}
 use Rattle.primitives.specs.Theorems.{Theorems}
 use Rattle.polynomials.proofs.Modulo.{product-reduced}
 use Rattle.primitives.proofs.Inverse.{inverse-zero, inverse-product}
@@ -20,5 +21,6 @@ theorems = record {
   cipher-permutation = Rounds.cipher-permutation sbox-permutation;
   words-permutation = Rounds.block-permutation sbox-permutation;
   aes-permutation = Rounds.aes-permutation sbox-permutation;
+  under-permutation = λ expanded. Rounds.block-permutation sbox-permutation (roundsDone (expanded .rounds)) (expanded .words);
   expanded-aes = expanded-aes;
 }

@@ -10,6 +10,7 @@ use Rattle.blocks.specs.Field.{product}
 use Rattle.polynomials.specs.Inner.{carryless, reduction}
 use Rattle.primitives.specs.Aes.{Byte, _•_, inverse, sBox, invSBox, State, subBytes, invSubBytes, shiftRows, invShiftRows, mixColumns, invMixColumns, addRoundKey, cipher, invCipher, encipher, decipher, isKey, aes}
 use Rattle.primitives.specs.Expanded.{expandedKey, under}
+use Rattle.primitives.specs.declared.aes.ExpandedKey.{ExpandedKey}
 
 pub record Theorems : Type 0 where
   -- The product is the reduction of the carry-less one, for every width and polynomial: the code goes by this.
@@ -28,5 +29,6 @@ pub record Theorems : Type 0 where
       → Permutation State (cipher roundKeys Nr) (invCipher roundKeys Nr)
   pub words-permutation : (Nr : ℕ) (w : List ℕ) → Permutation IsBlock (encipher Nr w) (decipher Nr w)
   pub aes-permutation : (key : List ℕ) → BlockPermutation (aes key)
-  -- What is made of a key of either length stands for AES under that key.
+  -- So is what an expanded key stands for, whatever is in it; and what is made of a key of either length stands for AES under that key.
+  pub under-permutation : (expanded : ExpandedKey) → BlockPermutation (under expanded)
   pub expanded-aes : (key : List ℕ) → isKey key ≡ true → under (expandedKey key) ≡ aes key

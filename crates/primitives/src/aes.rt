@@ -30,7 +30,7 @@ pub struct ExpandedKey {
     pub rounds: usize,
 }
 
-// What comes of a string that is to be a key. The number of rounds says which it was.
+// What comes of a string that is to be a key: whether it is one, and the key expanded, with 10 rounds or 14 as it has 16 bytes or 32.
 pub struct Expansion {
     pub is_key: bool,
     pub expanded: ExpandedKey,
@@ -57,14 +57,14 @@ fn round_constant(j: usize) -> u32
     number::word(RCON[j - 1], 0, 0, 0)
 }
 
-// Where the word Nk * j + m stands. Both numbers are counted, since a division takes longer than all the rest.
+// Where the word Nk * j + m stands. Both numbers are counted, since two divisions for each word take a third of the time.
 struct Place {
     j: usize,
     m: usize,
 }
 
 // The place behind another.
-fn next(nk: usize, place: Place) -> Place
+fn next_place(nk: usize, place: Place) -> Place
     requires { ⌜ (place .m < nk) × (place .j ≤ 10) ⌝ }
     ensures { λ r. ⌜ nk * r .j + r .m ≡ nk * place .j + place .m + 1 ⌝ }
     ensures { λ r. ⌜ r .m < nk ⌝ }
@@ -120,7 +120,7 @@ fn key_expansion(key: &[u8], nk: usize) -> state::Words
     for i in nk..4 * (nk + 7) {
         w = words[i - nk] ^ temp(&table, nk, place, w);
         words[i] = w;
-        let behind = next(nk, place);
+        let behind = next_place(nk, place);
         place = behind;
     }
     words
@@ -197,8 +197,8 @@ fn inv_cipher(
 fn rounds_done(rounds: usize) -> usize
     ensures { λ r. ⌜ r ≡ roundsDone rounds ⌝ }
 {
-    if rounds > state::ROUNDS {
-        return state::ROUNDS;
+    if rounds > state::MOST_ROUNDS {
+        return state::MOST_ROUNDS;
     }
     if rounds < 2 {
         return 2;
@@ -207,7 +207,7 @@ fn rounds_done(rounds: usize) -> usize
 }
 
 impl ExpandedKey {
-    // Expands a key, and says whether it is one, and by the number of rounds, which: from any other string come zeros.
+    // Expands a key, and says whether it is one and, by the number of rounds, of which length. From any other string come zeros.
     pub fn new(key: &[u8]) -> Expansion
         ensures { λ r. ⌜ r .«is_key» ≡ isKey (now (key .entry)) ⌝ }
         ensures { λ r. ⌜ r .expanded ≡ expandedKey (now (key .entry)) ⌝ }

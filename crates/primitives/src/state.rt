@@ -21,7 +21,7 @@ pub(crate) type Table = [u8; 256];
 pub(crate) type Mixing = [u32; 256];
 
 // The most rounds that there are round keys for.
-pub(crate) const ROUNDS: usize = 14;
+pub(crate) const MOST_ROUNDS: usize = 14;
 
 // The inverse of SubBytes, by the inverse S-box that is lent.
 fn inv_sub_bytes(table: &Table, s: State) -> State

@@ -12,6 +12,7 @@ use lib.ListN.{length, take, drop, getD, set}
 use lib.Seq.{drop-cons, take-at}
 use lib.Dec.{leb, ltb, eqb}
 use borrow.Author.Tests.{le-leb, lt-leb, lt-ltb, le-ltb, leb-true, ltb-true, ltb-false, eq-eqb, ne-eqb, eqb-true}
+use Rattle.strings.proofs.Refusals.{either}
 use Rattle.text.specs.declared.hex.Decoded.{Decoded}
 use Rattle.text.specs.declared.hex.Decoded.the-variants.{Bytes, Refused}
 use Rattle.text.specs.Hex.{digit, isDigit, value, hex, allDigits, isHex, unhex}
@@ -20,10 +21,6 @@ use Rattle.text.specs.Inner.{before, decodedOf, fieldOf}
 use Rattle.text.proofs.Parts.{before-le, split-none}
 
 -- ---- one digit
-
-either : (a b : Bool) → (a || b) ≡ true → (a ≡ true) ⊎ (b ≡ true)
-either true b e = inl refl
-either false b e = inr e
 
 between : (a b c : ℕ) → (leb a c && leb c b) ≡ true → (a ≤ c) × (c ≤ b)
 between a b c e = let h = and-eq-true-iff (leb a c) (leb c b) .0 e in (leb-true a c (h .0), leb-true c b (h .1))

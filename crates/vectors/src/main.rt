@@ -20,7 +20,7 @@
 //     rs k p n l r    the lent run r sealed, with the list of lengths l, for the pack p and the places from n on
 //     ro k p n l r    the lent run r opened, its lengths written to the lent list l
 //
-// In `x`, `m` and `s` every field is a block, and a is one in `ae` and `ad`. p has 16 digits and n has
+// In `x`, `m` and `s` every field is a block, and so is the field `a` of `ae` and `ad`. p has 16 digits and n has
 // 8; l has 4 for each entry. All other fields, and l, may have any length, and be empty. What the
 // library refuses, as a key of neither 16 nor 32 bytes, is answered `no` and the number of the reason.
 // The last seven answer the call's number, 0 where it was done, a space, and all the lent bytes as the

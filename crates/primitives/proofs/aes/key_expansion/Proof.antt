@@ -66,8 +66,8 @@ mul-words c = search needs
 array-write-words : tie.Need-array-write-words Inv-loop μ-loop
 array-write-words c = search needs
 
-next-requires : tie.Need-next-requires Inv-loop μ-loop
-next-requires c κs =
+next-place-requires : tie.Need-next-place-requires Inv-loop μ-loop
+next-place-requires c κs =
     let l = c .before .before .before .loop in
     let start = c .before .before .before .before .before .before .before in
     let few = groups (start .args .nk) (l .place .j) (l .place .m) (start .pre .0) (l .inv .3) (l .inv .2) (l .inv .4) (omega arith) in
@@ -89,8 +89,8 @@ loop-again c =
     let last : l .i + 1 - 1 ≡ l .i = omega arith in (
       put-next 60 (a .nk) (now (a .key)) (l .i) (l .words) (l .inv .0) v (omega arith) (omega arith) (l .inv .4) (rw (temp .temp .ensures, ← l .inv .2, l .inv .1)),
       rw last (sym (getD-set-same (l .words) (l .i) v 0 (rw (length-held 60 (a .nk) (now (a .key)) (l .i) (l .words) (l .inv .0) (omega arith)) (omega arith)))),
-      ap (λ (n : ℕ). n + 1) (l .inv .2) ∙ sym (c .next .ensures .0),
-      c .next .ensures .1,
+      ap (λ (n : ℕ). n + 1) (l .inv .2) ∙ sym (c .next-place .ensures .0),
+      c .next-place .ensures .1,
       omega arith,
       omega arith,
     )
@@ -124,7 +124,7 @@ key-expansion-spec =
     temp-requires
     mul-words
     array-write-words
-    next-requires
+    next-place-requires
     add-i
     loop-less
     loop-again
