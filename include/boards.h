@@ -24,10 +24,14 @@
  * blocks are opened or none is.
  *
  * A key is 16 bytes long, for AES-128, or 32 bytes long, for AES-256. Every call that takes a key takes both lengths.
- * Decipher and open with the key that you enciphered and sealed with: under another one boards_decipher leaves some
- * other board, and boards_open finds no check that holds, but by a chance as small as that of guessing 16 bytes. A key
- * of 32 bytes is not one of 16 with more bytes behind it: its first 16 bytes are another key. To give a pack a longer
- * key, open it with the old key and seal it with the new one.
+ * Decipher and open with the key that you enciphered and sealed with. With another one boards_decipher leaves some
+ * other board, and boards_open and boards_open_run answer 8: this is not proved, but that they do not is as unlikely as
+ * guessing 16 bytes. A key of 32 bytes is not one of 16 with more bytes behind it: its first 16 bytes are another key.
+ * To give a pack a longer key, call boards_open_run with the old key and, if it answered 0, boards_seal_run with the
+ * new key on the same run and list.
+ *
+ * Programs that were written for version 0.11 need no change, and packs that they sealed open as before: with a key of
+ * 16 bytes every answer and every byte is the same. A key of 32 bytes, which 0.11 refused with 1, is taken now.
  *
  * Each call does its work on the bytes that it is lent and answers 0, or it answers the number of what is wrong and
  * leaves every byte as it was, but for the place that boards_open_run writes to *failed. It does so for every key,
