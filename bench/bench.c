@@ -5,18 +5,18 @@
 #include "aes.h"
 #include "careful.h"
 #include "hch.h"
+#include "times.h"
 #include <boards.h>
 #include <stdio.h>
 #include <stdlib.h>
 #include <string.h>
-#include <time.h>
 
 /* From the archive of crates/bench, for boards.h has no call on a single block. A slice is a pointer and a length. */
 void bench_aes_encipher(const uint32_t words[60], size_t rounds, uint8_t *data, size_t length);
 void bench_aes_decipher(const uint32_t words[60], size_t rounds, uint8_t *data, size_t length);
 void bench_product(const uint8_t *a, size_t a_length, uint8_t *data, size_t length);
 
-enum { TURNS = 600, ROWS = 13, SHOWN = 11, SIDES = 3, BLOCKS = 40, RUN = BLOCKS * 512, MOST = RUN + 512 };
+enum { ROWS = 13, SHOWN = 11, SIDES = 3, BLOCKS = 40, RUN = BLOCKS * 512, MOST = RUN + 512 };
 
 /* A key, and what the calls on a single block find made of it, which each call of HCH makes anew. */
 typedef struct {
@@ -143,38 +143,16 @@ static void open_one_by_one(WORK) {
     memcpy(data + RUN, list, sizeof list);
 }
 
-static double now(void) {
-    struct timespec t;
-    clock_gettime(CLOCK_MONOTONIC, &t);
-    return (double)t.tv_sec + (double)t.tv_nsec * 1e-9;
-}
-
 /* The nanoseconds of a call, of each side in each turn. */
 typedef double row_times[SIDES][TURNS];
 
-static int by_size(const void *a, const void *b) {
-    double x = *(const double *)a, y = *(const double *)b;
-    return (x > y) - (x < y);
-}
-
-/* Over all turns the median of a time or, where there is another, of the time over that of the same turn: for a processor may change its clock from
-   turn to turn. */
-static double median(const double time[TURNS], const double over[TURNS]) {
-    static double values[TURNS];
-    for (int turn = 0; turn < TURNS; turn++) values[turn] = over == NULL ? time[turn] : time[turn] / over[turn];
-    qsort(values, TURNS, sizeof *values, by_size);
-    return values[TURNS / 2];
-}
-
-/* A turn goes through all rows, so that what else the machine does for some seconds slows no row in all turns; and from turn to turn the stack
-   stands elsewhere, for that alone is worth some per cent. The first call of each side in a turn, which finds the caches cold, is not timed.
-   In every turn all sides of a row are to leave the same bytes. */
+/* A turn goes through all rows, so that what else the machine does for some seconds slows no row in all turns. The first call of each side in a
+   turn, which finds the caches cold, is not timed. In every turn all sides of a row are to leave the same bytes. */
 static void measure(const row *rows, int count, row_times times[]) {
     static uint8_t data[ROWS][SIDES][MOST];
     memset(data, 1, sizeof data); /* not 0, for the product would stay 0 */
     for (int turn = 0; turn < TURNS; turn++) {
-        volatile uint8_t room[16 + turn * 80 % 4096];
-        room[0] = 0, (void)room[0];
+        MOVE_STACK(turn);
         for (int i = 0; i < count; i++)
             for (int side = 0; side < SIDES && rows[i].sides[side] != NULL; side++) {
                 work *call = rows[i].sides[side];

@@ -1,27 +1,21 @@
 /* Times the program boardline on a stream of lines of 4,096-byte boards beside the library's own calls on the same boards, turn by turn in one run,
    and prints how much of the library's speed the program has, both ways: 1 would be all of it. The program reads a file and writes to one. */
 #define _POSIX_C_SOURCE 200809L
+#include "times.h"
 #include <boards.h>
 #include <stdio.h>
 #include <stdlib.h>
 #include <string.h>
 #include <sys/wait.h>
-#include <time.h>
 #include <unistd.h>
 
 typedef uint32_t call(const uint8_t *key, size_t key_length, const uint8_t *tweak, size_t tweak_length, uint8_t *data, size_t length);
 
-enum { TURNS = 20, LINES = 600, BOARD = 4096 };
+enum { STREAMS = 20, LINES = 600, BOARD = 4096 };
 
 static uint8_t boards[LINES][BOARD], results[LINES][BOARD];
 static const uint8_t key[16] = {0x2b, 0x7e, 0x15, 0x16, 0x28, 0xae, 0xd2, 0xa6, 0xab, 0xf7, 0x15, 0x88, 0x09, 0xcf, 0x4f, 0x3c};
 static const uint8_t tweak[16] = {1};
-
-static double now(void) {
-    struct timespec t;
-    clock_gettime(CLOCK_MONOTONIC, &t);
-    return (double)t.tv_sec + (double)t.tv_nsec * 1e-9;
-}
 
 static char *put_hex(char *at, const uint8_t *bytes, size_t n) {
     static const char digits[] = "0123456789abcdef";
@@ -98,7 +92,7 @@ static void compare(const char *program, const char *name, char command, call *w
     FILE *in = lines(command), *out = tmpfile();
     need(out != NULL, "no temporary file");
     double best_program = 1e9, best_library = 1e9;
-    for (int turn = 0; turn < TURNS; turn++) {
+    for (int turn = 0; turn < STREAMS; turn++) {
         double p = run_program(program, in, out), l = run_library(work);
         need(same(out), "the program and the library differ");
         if (p < best_program) best_program = p;

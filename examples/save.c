@@ -1,20 +1,28 @@
 /*
- * save.c: saves boards in a pack file of sealed blocks, and gives them back.
+ * save.c: saves boards in a pack file of sealed blocks, gives them back, and tells an empty slot from a damaged one.
  *
  *     cc -I PREFIX/include -o save save.c -L PREFIX/lib -lboards
  *
- *     save KEYFILE PACKNUMBER PACKFILE add BOARD...           seals each file BOARD behind what the pack file holds
+ *     save KEYFILE PACKNUMBER PACKFILE add BOARD...           seals each file BOARD behind those that were saved
  *     save KEYFILE PACKNUMBER PACKFILE get PLACE              writes the board that begins there to standard output
  *     save KEYFILE PACKNUMBER PACKFILE chapter PLACE BOARD... writes the boards from there on to new files, in one go
- *     save KEYFILE PACKNUMBER PACKFILE check                  says of each place whether its block is good
+ *     save KEYFILE PACKNUMBER PACKFILE check                  says which blocks are good, never saved or damaged
  *
  * KEYFILE holds the 16 or 32 bytes of the key, and PACKNUMBER is a number of up to 64 bits. The pack file is a pack of
  * 1 to 128 blocks, all under one key; add begins it where it is empty or missing. A board is a file, cut into payloads
  * of 496 bytes. Its last payload is shorter, and empty if nothing is left for it, so that a board's end is told from
- * its blocks alone: a board of 1,236 bytes takes three blocks, of 496, 496 and 244 bytes. One program at a time may add
- * to a pack file.
- * If a board was not saved whole, the file takes no more until it is cut back to the end of its last whole board; if it
- * ends within a block, it gives none either, but check still looks at the blocks in front of that one.
+ * its blocks alone: a board of 1,236 bytes takes three blocks, of 496, 496 and 244 bytes.
+ *
+ * An empty slot is a block of zero bytes, where nothing was ever saved: a new save file may be full of them. It is no
+ * damage, and check counts it apart. add fills the empty slots behind the last board, not those in front of it, and the
+ * file grows where they do not suffice. get and chapter say of an empty slot that it was never saved; those at the end
+ * of the file do not keep chapter from the boards in front of them.
+ *
+ * One program at a time may add to a pack file. If two add at once, the second is told that its board was not saved
+ * where the file grows at its end; where both fill the same empty slots, a board may be lost, and nobody is told.
+ * If a board was not saved whole, the file takes no more until it is cut back to the end of its last whole board, or
+ * holds zero bytes from there on. If it ends within a block, it gives none either, but check still looks at the blocks
+ * in front of that one.
  *
  * Status 0: all was done. 1: something was refused, is damaged or could not be read or written. 2: wrong arguments.
  */
@@ -36,7 +44,7 @@ static const char *pack_file;
 static uint8_t pack[(BOARDS_PACK_BLOCKS_MAX + 1) * BOARDS_BLOCK_SIZE];
 static size_t pack_length;
 
-static const char no_end[] = "the end of the last board is missing";
+static const char no_end[] = "the end of this board is missing";
 
 /* Unless all is well, says what is wrong with a file and ends the program. Without a sentence, errno has the reason. */
 static void need(bool well, const char *file, const char *sentence) {
@@ -61,22 +69,27 @@ static FILE *open_file(const char *name, const char *mode) {
 /* A read or a write that failed has left its mark in the file, and a write that was put off may fail now. */
 static void close_file(FILE *file, const char *name) { need(!ferror(file) && fclose(file) == 0, name, NULL); }
 
+/* Reads a file, or as much of it as there is room for, and gives the number of bytes. */
+static size_t read_file(const char *name, uint8_t *bytes, size_t room) {
+    FILE *file = open_file(name, "rb");
+    size_t length = fread(bytes, 1, room, file);
+    close_file(file, name);
+    return length;
+}
+
 /* The library is lent what was read, and refuses a key of another length: here, before anything else is done. */
 static void read_key(const char *name) {
-    FILE *file = open_file(name, "rb");
-    key_length = fread(key, 1, sizeof key, file);
-    close_file(file, name);
+    key_length = read_file(name, key, sizeof key);
     uint32_t answer = boards_seal(key, key_length, NULL, 0, pack_number, 0, pack, BOARDS_BLOCK_SIZE);
     need(answer == BOARDS_DONE, name, boards_reason(answer));
 }
 
-/* Reads the pack file, and leaves it open. */
-static FILE *read_pack(const char *mode) {
-    FILE *file = open_file(pack_file, mode);
-    rewind(file); /* one that is opened to be added to may stand at its end */
-    pack_length = fread(pack, 1, sizeof pack, file);
-    need(!ferror(file), pack_file, NULL);
-    return file;
+static void read_pack(void) { pack_length = read_file(pack_file, pack, sizeof pack); }
+
+/* What was read has to be a pack, whichever place is asked for. */
+static void need_pack(void) {
+    uint32_t answer = boards_find(pack, pack_length, 0);
+    need(answer == BOARDS_DONE, pack_file, boards_reason(answer));
 }
 
 /* The block of a place, where it stands in the pack. */
@@ -93,42 +106,69 @@ static size_t open_block(uint32_t place) {
     return boards_payload_length(find(place));
 }
 
-/* Reads a board into the pack from a place on, each payload to the front of its block, and seals these blocks as a run.
-   Gives the number of blocks. */
-static uint32_t seal_board(FILE *board, uint32_t first) {
+/* Whether a place is an empty slot. Its block is opened in a copy: one that is good stays sealed. */
+static bool is_empty(uint32_t place) {
+    uint8_t block[BOARDS_BLOCK_SIZE];
+    memcpy(block, find(place), sizeof block);
+    return boards_open(key, key_length, pack_number, place, block, sizeof block) == BOARDS_BLANK;
+}
+
+/* The number of places without the empty slots at the end of the pack, but no less than the least. */
+static uint32_t saved_places(uint32_t least) {
+    uint32_t count = (uint32_t)(pack_length / BOARDS_BLOCK_SIZE);
+    while (count > least && is_empty(count - 1)) count--;
+    return count;
+}
+
+/* Cuts a board into payloads, each put to the front of its block from a place on, and seals these blocks as a run.
+   Gives their number. */
+static uint32_t seal_board(const uint8_t *board, size_t length, uint32_t first) {
     uint16_t lengths[BOARDS_RUN_BLOCKS_MAX];
-    uint32_t count = 0, place = first;
-    do {
-        need_at(place, place < BOARDS_PACK_BLOCKS_MAX, "the board does not fit in: a pack has 128 blocks at most");
-        pack_length += BOARDS_BLOCK_SIZE; /* the pack has a block more, which is found then */
-        lengths[count] = (uint16_t)fread(find(place++), 1, BOARDS_PAYLOAD_MAX, board);
-    } while (lengths[count++] == BOARDS_PAYLOAD_MAX);
+    uint32_t count = (uint32_t)(length / BOARDS_PAYLOAD_MAX) + 1;
+    need_at(BOARDS_PACK_BLOCKS_MAX, first + count <= BOARDS_PACK_BLOCKS_MAX,
+            "the board does not fit in: a pack has 128 blocks at most");
+    pack_length = (size_t)(first + count) * BOARDS_BLOCK_SIZE; /* the pack ends with this board, and has its blocks */
+    for (uint32_t i = 0; i < count; i++) {
+        lengths[i] = (uint16_t)(i + 1 < count ? BOARDS_PAYLOAD_MAX : length % BOARDS_PAYLOAD_MAX);
+        memcpy(find(first + i), board + (size_t)BOARDS_PAYLOAD_MAX * i, lengths[i]);
+    }
     uint32_t answer = boards_seal_run(key, key_length, pack_number, first, lengths, count, find(first),
                                       (size_t)count * BOARDS_BLOCK_SIZE);
     need_at(first, answer == BOARDS_DONE, boards_reason(answer));
     return count;
 }
 
+/* Writes blocks of the pack to the file, at its end or over empty slots, and says whether they are where they belong.
+   What is appended goes to the end that the file has by then: if another program has added to it, that is elsewhere. */
+static bool write_blocks(uint32_t first, uint32_t count, bool append) {
+    FILE *file = open_file(pack_file, append ? "ab" : "r+b");
+    long start = (long)first * BOARDS_BLOCK_SIZE, end = start + (long)count * BOARDS_BLOCK_SIZE;
+    return fseek(file, start, SEEK_SET) == 0 && fwrite(find(first), BOARDS_BLOCK_SIZE, count, file) == count &&
+           fflush(file) == 0 && ftell(file) == end && fclose(file) == 0;
+}
+
 /* Seals all of a board before any of it is written: if it is refused, the pack file holds what it held. The last block
-   that it holds has to be good and the end of a board: nothing is added behind half a board, nor under another key or
-   pack number. */
+   that was saved has to be good and the end of a board: nothing is added behind half a board, nor under another key or
+   pack number. The board is read first, so that a slow one leaves no time for another program to take its place. */
 static void add(const char *name) {
-    FILE *board = open_file(name, "rb"), *file = read_pack("a+b");
-    uint32_t first = (uint32_t)(pack_length / BOARDS_BLOCK_SIZE);
+    static uint8_t board[BOARDS_PACK_BLOCKS_MAX * BOARDS_PAYLOAD_MAX]; /* one that fills this fits in no pack */
+    size_t length = read_file(name, board, sizeof board);
+    close_file(open_file(pack_file, "ab"), pack_file); /* makes it where it is missing */
+    read_pack();
+    if (pack_length > 0) need_pack();
+    uint32_t first = saved_places(0);
+    bool append = pack_length == (size_t)first * BOARDS_BLOCK_SIZE; /* there is no empty slot to be filled */
     if (first > 0) need_at(first - 1, open_block(first - 1) < BOARDS_PAYLOAD_MAX, no_end);
-    uint32_t count = seal_board(board, first);
-    close_file(board, name);
-    /* Once it is all out, the file ends where this board ends, unless another program has written to it. */
-    bool written = fseek(file, 0, SEEK_END) == 0 && fwrite(find(first), BOARDS_BLOCK_SIZE, count, file) == count &&
-                   fflush(file) == 0 && ftell(file) == (long)pack_length && fclose(file) == 0;
-    need_at(first, written, "a board was not saved whole: the disk is full, or another program added to the file");
+    uint32_t count = seal_board(board, length, first);
+    need_at(first, write_blocks(first, count, append),
+            "a board was not saved whole: the disk is full, or another program added to the file");
     printf("%s: first place %" PRIu32 ", number of blocks %" PRIu32 "\n", name, first, count);
 }
 
 /* Opens all blocks of a board before any of it is written: of a board that is damaged nothing is given. */
 static void get(uint32_t first) {
     uint32_t last = first;
-    close_file(read_pack("rb"), pack_file);
+    read_pack();
     while (open_block(last) == BOARDS_PAYLOAD_MAX) last++;
     for (; first <= last; first++) fwrite(find(first), 1, boards_payload_length(find(first)), stdout);
 }
@@ -139,17 +179,18 @@ static void need_new(const char *name) {
     need(errno == ENOENT, name, NULL);
 }
 
-/* Opens the pack from a place on by one call, and writes as many boards as there are names. If a block from there on is
-   damaged, or there are not so many boards, or one of the files is there already, no file is written. */
+/* Opens the pack from a place on, without the empty slots at its end, by one call, and writes as many boards as there
+   are names. If a block of these is damaged or an empty slot, or there are not so many boards, or one of the files is
+   there already, no file is written. */
 static void chapter(uint32_t first, char **names, size_t boards) {
     uint16_t lengths[BOARDS_RUN_BLOCKS_MAX];
     uint32_t failed = first;
     size_t ends = 0;
-    close_file(read_pack("rb"), pack_file);
-    uint8_t *run = find(first), *end = pack + pack_length;
-    size_t count = (size_t)(end - run) / BOARDS_BLOCK_SIZE;
-    uint32_t answer = boards_open_run(key, key_length, pack_number, first, lengths, count, run, (size_t)(end - run),
-                                      &failed);
+    read_pack();
+    uint8_t *run = find(first);
+    size_t count = saved_places(first + 1) - first; /* the run has the block of this place at least, be it empty */
+    uint32_t answer = boards_open_run(key, key_length, pack_number, first, lengths, count, run,
+                                      count * BOARDS_BLOCK_SIZE, &failed);
     need_at(failed, answer == BOARDS_DONE, boards_reason(answer));
     for (size_t i = 0; i < count; i++) ends += lengths[i] < BOARDS_PAYLOAD_MAX;
     need_at(first, ends >= boards, "there are not so many boards from here on");
@@ -165,21 +206,26 @@ static void chapter(uint32_t first, char **names, size_t boards) {
     }
 }
 
-/* Where the file ends within a block, the whole ones are looked at before this is told. */
+/* Where the file ends within a block, the whole ones are looked at before this is told. A board whose payload is full
+   goes on in the next block: where that was never saved, its end is missing. */
 static void check(void) {
-    uint32_t answer, place = 0, bad = 0;
-    close_file(read_pack("rb"), pack_file);
+    uint32_t answers[BOARDS_PACK_BLOCKS_MAX + 1], count = 0, empty = 0, damaged = 0;
+    read_pack();
     size_t whole = pack_length - pack_length % BOARDS_BLOCK_SIZE;
-    for (; boards_find(pack, whole, place) == BOARDS_DONE; place++) {
-        answer = boards_open(key, key_length, pack_number, place, boards_part(pack, place), BOARDS_BLOCK_SIZE);
-        printf("place %" PRIu32 ": %s\n", place, answer == BOARDS_DONE ? "good" : boards_reason(answer));
-        bad += answer != BOARDS_DONE;
+    for (; boards_find(pack, whole, count) == BOARDS_DONE; count++) {
+        uint32_t answer = boards_open(key, key_length, pack_number, count, boards_part(pack, count), BOARDS_BLOCK_SIZE);
+        printf("place %" PRIu32 ": %s\n", count, answer == BOARDS_DONE ? "good" : boards_reason(answer));
+        answers[count] = answer;
+        empty += answer == BOARDS_BLANK;
+        damaged += answer != BOARDS_DONE && answer != BOARDS_BLANK;
     }
-    answer = boards_find(pack, pack_length, 0);
-    need(answer == BOARDS_DONE, pack_file, boards_reason(answer));
-    printf("number of blocks %" PRIu32 ", not good %" PRIu32 "\n", place, bad);
-    need(bad == 0, pack_file, "not all blocks are good");
-    need(boards_payload_length(boards_part(pack, place - 1)) < BOARDS_PAYLOAD_MAX, pack_file, no_end);
+    answers[count] = BOARDS_BLANK; /* nothing was ever saved behind the end of the file */
+    need_pack();
+    printf("number of blocks %" PRIu32 ", never saved %" PRIu32 ", damaged %" PRIu32 "\n", count, empty, damaged);
+    need(damaged == 0, pack_file, "not all saved blocks are good");
+    for (uint32_t place = 0; place < count; place++)
+        if (answers[place] == BOARDS_DONE && answers[place + 1] == BOARDS_BLANK)
+            need_at(place, boards_payload_length(find(place)) < BOARDS_PAYLOAD_MAX, no_end);
 }
 
 /* Whether the text is a number, in digits alone: strtoull itself would pass over blanks and take a sign. */

@@ -23,15 +23,23 @@
  * the length of each block's payload. Each payload is sealed where it stands, at the front of its block. Of a run, all
  * blocks are opened or none is.
  *
+ * A new file is often filled with zeros. A block of 512 zeros that will not open is blank: boards_open and
+ * boards_open_run answer 12 for it, and 8 for any other block that will not open. So a user who looks where nothing was
+ * saved yet need not be told that something is damaged. 12 tells of the zeros and not of how they came there: a block
+ * that was overwritten with zeros later is blank too.
+ *
  * A key is 16 bytes long, for AES-128, or 32 bytes long, for AES-256. Every call that takes a key takes both lengths.
  * Decipher and open with the key that you enciphered and sealed with. With another one boards_decipher leaves some
- * other board, and boards_open and boards_open_run answer 8: this is not proved, but that they do not is as unlikely as
- * guessing 16 bytes. A key of 32 bytes is not one of 16 with more bytes behind it: its first 16 bytes are another key.
- * To give a pack a longer key, call boards_open_run with the old key and, if it answered 0, boards_seal_run with the
- * new key on the same run and list.
+ * other board, and boards_open and boards_open_run answer 8, or 12 for a block of zeros: this is not proved, but
+ * that they do not is as unlikely as guessing 16 bytes. No key is known under which a block of zeros opens. A key of 32
+ * bytes is not one of 16 with more bytes behind it: its first 16 bytes are another key. To give a pack a longer key,
+ * call boards_open_run with the old key and, if it answered 0, boards_seal_run with the new key on the same run and
+ * list. Where the pack has blank blocks, open and seal the others, and leave the blank ones as they are.
  *
- * Programs that were written for version 0.11 need no change, and packs that they sealed open as before: with a key of
- * 16 bytes every answer and every byte is the same. A key of 32 bytes, which 0.11 refused with 1, is taken now.
+ * Of the programs that were written for version 0.12, those that treat every answer but 0 alike need no change. One
+ * that asks for 8, or switches on the number, has to know 12: it stands in the place of 8 where the block is all zeros,
+ * and *failed is written with it as with 8. Every other answer is the same, and so is every byte that is enciphered,
+ * deciphered, sealed or opened. Keys of 32 bytes came with 0.12: 0.11 refused them with 1.
  *
  * Each call does its work on the bytes that it is lent and answers 0, or it answers the number of what is wrong and
  * leaves every byte as it was, but for the place that boards_open_run writes to *failed. It does so for every key,
@@ -71,10 +79,10 @@
  * key and the data: whoever shares a processor's cache with the program may learn something of both. The products in
  * HCH use no table, and no branch that depends on the data was seen in their compiled code. HCH's own tests, in its
  * source, are on lengths alone. Opening, in its source, looks at every byte of the check where the payload's length is
- * at most 496. Its time depends on that length, and a block that it answers 8 for takes twice as long as a good one. A
- * run is opened block by block up to the first that will not open, and what was opened is then enciphered again. The
- * compiled code of HCH and of opening was not searched for other branches. Nothing is wiped from the stack. Keys are
- * yours to make, to keep and to wipe.
+ * at most 496. Its time depends on that length, and a block that it answers 8 or 12 for takes twice as long as a good
+ * one. Whether such a block is all zeros is found by looking at every byte of it. A run is opened block by block up to
+ * the first that will not open, and what was opened is then enciphered again. The compiled code of HCH and of opening
+ * was not searched for other branches. Nothing is wiped from the stack. Keys are yours to make, to keep and to wipe.
  */
 #ifndef BOARDS_H
 #define BOARDS_H
@@ -82,9 +90,9 @@
 #include <stddef.h>
 #include <stdint.h>
 
-/* The version of the library: 0.12. */
+/* The version of the library: 0.13. */
 #define BOARDS_VERSION_MAJOR 0
-#define BOARDS_VERSION_MINOR 12
+#define BOARDS_VERSION_MINOR 13
 
 /* The limits, in bytes but for the last three. */
 #define BOARDS_KEY_SIZE 16         /* of a key for AES-128 */
@@ -107,10 +115,11 @@
 #define BOARDS_PAYLOAD_TOO_LONG 5    /* payload_length, or a number of the list that is lent to sealing, is over 496 */
 #define BOARDS_PLACE_TOO_HIGH 6      /* the place, or a run's last one, is over 65,535; in boards_find, past the pack */
 #define BOARDS_WRONG_BLOCK_SIZE 7    /* the block is not 512 bytes long */
-#define BOARDS_CHECK_FAILED 8        /* no payload seals to this block under this key, pack and place */
+#define BOARDS_CHECK_FAILED 8        /* no payload seals to this block with this key, pack and place; it is not blank */
 #define BOARDS_LINE_NOT_UNDERSTOOD 9 /* said by the command boardline alone: no function here answers it */
 #define BOARDS_WRONG_PACK_SIZE 10    /* the pack or the run is not 1 to 128 whole blocks of 512 bytes */
 #define BOARDS_WRONG_LIST_SIZE 11    /* the list does not have one number for each block of the run */
+#define BOARDS_BLANK 12              /* as 8, but the block is blank: all its 512 bytes are zero, as in a new file */
 
 /* Lets the compiler warn where an answer is not looked at: the data of a refused call is still the plain board. */
 #if defined(__GNUC__)
@@ -168,10 +177,14 @@ uint32_t boards_seal(const uint8_t *key, size_t key_length, const uint8_t *paylo
  * Answers BOARDS_DONE: block holds the plain block. It has the payload from byte 0 on, boards_payload_length(block)
  * bytes of it, then zeros up to byte 495, the pack (8 bytes), the place (4), the payload's length (2) and two zeros,
  * each number with its highest byte first.
- * Answers 1, 7, 6 or 8, the first of them that applies, in this order (BOARDS_WRONG_KEY_SIZE,
- * BOARDS_WRONG_BLOCK_SIZE, BOARDS_PLACE_TOO_HIGH, BOARDS_CHECK_FAILED): block is as it was. 8 says that boards_seal
- * makes this block from no payload at all with this key, pack and place: it was damaged, or it belongs to another
- * key, pack or place.
+ * Answers 1, 7 or 6, the first of them that applies, in this order (BOARDS_WRONG_KEY_SIZE, BOARDS_WRONG_BLOCK_SIZE,
+ * BOARDS_PLACE_TOO_HIGH): block is as it was.
+ * Answers 8 or 12 where none of these applies and the block will not open (BOARDS_CHECK_FAILED, BOARDS_BLANK): block is
+ * as it was. Both say that boards_seal makes this block from no payload at all with this key, pack and place.
+ *   - 12 says besides that all 512 bytes are zero, as in a new file that was filled with zeros. There is nothing to
+ *     read here: tell the user so, and seal into the block when there is something to save.
+ *   - 8 says that they are not all zero: the block was damaged, or it belongs to another key, pack or place.
+ * A block of zeros that boards_seal does make from some payload is opened as any other.
  */
 BOARDS_LOOK_AT_ANSWER
 uint32_t boards_open(const uint8_t *key, size_t key_length, uint64_t pack, uint32_t place,
@@ -222,10 +235,13 @@ uint32_t boards_seal_run(const uint8_t *key, size_t key_length, uint64_t pack, u
  *
  * Answers BOARDS_DONE: block i is the plain block that boards_open leaves for the place first + i, and lengths[i] is
  * the length of its payload.
- * Answers 1, 10, 11, 6 or 8, the first of them that applies, in this order (BOARDS_WRONG_KEY_SIZE,
- * BOARDS_WRONG_PACK_SIZE, BOARDS_WRONG_LIST_SIZE, BOARDS_PLACE_TOO_HIGH, BOARDS_CHECK_FAILED): run and lengths are as
- * they were. With 8, *failed is the smallest place whose block boards_open would not open; with any other answer,
- * BOARDS_DONE too, *failed is not written.
+ * Answers 1, 10, 11 or 6, the first of them that applies, in this order (BOARDS_WRONG_KEY_SIZE,
+ * BOARDS_WRONG_PACK_SIZE, BOARDS_WRONG_LIST_SIZE, BOARDS_PLACE_TOO_HIGH): run and lengths are as they were.
+ * Answers 8 or 12 where none of these applies and a block will not open (BOARDS_CHECK_FAILED, BOARDS_BLANK): run and
+ * lengths are as they were. *failed is the smallest place whose block boards_open would not open, and the answer is
+ * what boards_open answers for that block; of the blocks behind it nothing is told. So a run with a blank block is not
+ * opened: open what stands before it and behind it by calls of its own.
+ * With any answer but 8 and 12, BOARDS_DONE too, *failed is not written.
  */
 BOARDS_LOOK_AT_ANSWER
 uint32_t boards_open_run(const uint8_t *key, size_t key_length, uint64_t pack, uint32_t first,
@@ -252,6 +268,7 @@ static inline const char *boards_reason(uint32_t number) {
     case BOARDS_LINE_NOT_UNDERSTOOD: return "the line was not understood";
     case BOARDS_WRONG_PACK_SIZE: return "the pack or the run is not 1 to 128 whole blocks of 512 bytes";
     case BOARDS_WRONG_LIST_SIZE: return "the list does not have one number for each block of the run";
+    case BOARDS_BLANK: return "this slot was never saved";
     default: return "there is no such number";
     }
 }

@@ -130,7 +130,7 @@ static void lend(const call *c, position where) {
 
 /* What OPEN_RUN writes beside the run. */
 static void hold_written(const call *c) {
-    uint32_t place = c->number == 8 ? c->failed_place : no_place, left;
+    uint32_t place = says_failed(c->number) ? c->failed_place : no_place, left;
     memcpy(&left, failed.bytes, sizeof left);
     if (left != place) DIFFERS("*failed is %" PRIu32 " in the place of %" PRIu32, left, place);
     lent_check(&failed, (const uint8_t *)&place);

@@ -28,7 +28,7 @@ typedef struct {
     uint32_t number;           /* the answer */
     const uint8_t *after;      /* what data holds then, as many bytes as before */
     const uint8_t *list_after; /* and the list of OPEN_RUN */
-    uint32_t failed_place;     /* what OPEN_RUN writes to *failed if the number is 8 */
+    uint32_t failed_place;     /* what OPEN_RUN writes to *failed if the number is 8 or 12 */
     size_t payload_length;     /* what boards_payload_length says of a block that was opened */
 } call;
 

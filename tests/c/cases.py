@@ -154,20 +154,24 @@ def payloads(rng):
 
 @under_each_key
 def lent_blocks(rng, k):
-    """For opening, a good block cut short, or with others behind it."""
+    """For opening, a good block cut short, or with others behind it; and
+    zeros."""
     key, payload = rng.randbytes(k), rng.randbytes(77)
     pack, place = rng.getrandbits(64), rng.getrandbits(16)
     good = seal(key, payload, pack, place)
     for length in LENGTHS:
         yield sealing(key, payload, pack, place, rng.randbytes(length))
         yield opening(key, pack, place, (9 * good)[:length])
+        yield opening(key, pack, place, bytes(length))
 
 
 @under_each_key
 def places_and_packs(rng, k):
     """For opening at a place over 65,535, a block that would pass its check,
-    which is looked at last."""
+    which is looked at last. Zeros are opened for each pack and place."""
     key = rng.randbytes(k)
+    for pack, place in itertools.product(PACKS, PLACES):
+        yield opening(key, pack, place, bytes(SIZE))
     for length, pack, place in itertools.product((0, 20, MOST), PACKS, PLACES):
         payload, block = rng.randbytes(length), rng.randbytes(SIZE)
         if place <= LAST_PLACE:
@@ -181,8 +185,8 @@ def places_and_packs(rng, k):
 @under_each_key
 def wrong_blocks(rng, k):
     """Blocks of another place, pack or key, be it the same one twice or its
-    first half, and such as decipher to a plain block with one part of its
-    check wrong."""
+    first half; such as decipher to a plain block with one part of its check
+    wrong; and zeros, but for one bit or for none."""
     key, payload, full = map(rng.randbytes, (k, 20, MOST))
     pack, place = rng.getrandbits(64), 3
     good = seal(key, payload, pack, place)
@@ -203,6 +207,8 @@ def wrong_blocks(rng, k):
     for block in wrong:
         assert not packs.passes(block, pack, place)
         yield opening(key, pack, place, by_hand(key, pack, place, block))
+    for at, bit in ((0, 0), (0, 0x80), (1, 1), (256, 2), (510, 8), (511, 1)):
+        yield opening(key, pack, place, with_bit(bytes(SIZE), at, bit))
 
 
 @under_each_key
@@ -219,7 +225,8 @@ def refusals(rng, k):
         yield sealing(key, bytes(used), 1, place, (2 * block)[:length])
     for key, length, place, pack in itertools.product(
             keys, (511, SIZE, 513), (3, 65536 + 3), (1, 2)):
-        yield opening(key, pack, place, (2 * block)[:length])
+        for lent in (2 * block, bytes(2 * SIZE)):
+            yield opening(key, pack, place, lent[:length])
     run = runs.seal_run(good, 1, 3, (0, MOST), rng.randbytes(2 * SIZE))
     for key, length, count, used, place, pack in itertools.product(
             keys, (1023, 1024, 1025), (1, 2, 3), (MOST, MOST + 1),
@@ -227,6 +234,10 @@ def refusals(rng, k):
         call = key, pack, place, (used,) * count, (2 * run)[:length]
         yield sealing_run(*call)
         yield opening_run(*call)
+    choices = [(block, with_bit(block, 77, 1), bytes(SIZE))
+               for block in runs.parts(run)]
+    for blocks in itertools.product(*choices):
+        yield opening_run(good, 1, 3, (0, 0), b"".join(blocks))
 
 
 def stored_lines(rng):
@@ -308,8 +319,8 @@ def stored_find(_, fields, answer):
 
 
 def stored_run(name):
-    """An answer has the number, in `ro` the place behind number 8 and the
-    list as it is left, and the run."""
+    """An answer has the number, in `ro` the place behind number 8 or 12 and
+    the list as it is left, and the run."""
     def stored(_, fields, answer):
         key, pack, place, lengths, run = from_hex(*fields)
         number, *middle, after = answer.split(b" ")

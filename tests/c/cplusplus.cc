@@ -26,7 +26,8 @@ static bool hch(size_t k) {
 
 static bool block(size_t k) {
     const uint8_t payload[3] = {0x41, 0x42, 0x43};
-    uint8_t block[BOARDS_BLOCK_SIZE];
+    uint8_t block[BOARDS_BLOCK_SIZE] = {0};
+    if (boards_open(key, k, 1, 3, block, sizeof block) != BOARDS_BLANK) return said("zeros that are not blank");
     if (boards_seal(key, k, payload, sizeof payload, 1, 3, block, sizeof block) != BOARDS_DONE)
         return said("not sealed");
     if (boards_open(key, k, 1, 4, block, sizeof block) != BOARDS_CHECK_FAILED)
@@ -55,6 +56,8 @@ static bool run(size_t k) {
     uint8_t run[3 * BOARDS_BLOCK_SIZE] = {0};
     uint16_t opened[3] = {0, 0, 0};
     uint32_t failed = 0;
+    if (boards_open_run(key, k, 1, 7, opened, 3, run, sizeof run, &failed) != BOARDS_BLANK || failed != 7)
+        return said("a run of zeros that is not blank");
     if (boards_seal_run(key, k, 1, 7, lengths, 2, run, sizeof run) != BOARDS_WRONG_LIST_SIZE)
         return said("sealed by a list that is too short");
     if (boards_seal_run(key, k, 1, 7, lengths, 3, run, sizeof run) != BOARDS_DONE)

@@ -7,6 +7,7 @@
 void cases(void);   /* the lines of standard input, made by the reference program */
 void order(void);   /* the order of the refusals */
 void opening(void); /* blocks that do not open */
+void blank(void);   /* blocks of zeros, and such as are nearly so */
 void finding(void); /* the blocks of a pack, found by their places */
 void runs(void);    /* runs of blocks, sealed and opened in one call */
 void keys(void);    /* keys of both lengths and of others */

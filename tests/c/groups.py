@@ -12,6 +12,7 @@ from harness import Differs, ended
 
 ALONE = {
     "order": "the order of refusals", "opening": "blocks that do not open",
+    "blank": "blocks of zeros",
     "finding": "blocks found in a pack",
     "runs": "runs of blocks",
     "keys": "keys of both lengths and of others",
@@ -25,7 +26,8 @@ ALONE = {
 # Fields of a case, as cases.c has them, and the numbers that are looked at
 # beside the call's own: u of an opened block, and the place that failed.
 KEY, DATA, NUMBER, AFTER, USED, LIST, LIST_AFTER, FAILED = 1, 4, *range(7, 13)
-COUNTED = {("open", "0"): (USED,), ("open_run", "8"): (FAILED,)}
+COUNTED = {("open", "0"): (USED,), ("open_run", "8"): (FAILED,),
+           ("open_run", "12"): (FAILED,)}
 
 
 def make_cases():

@@ -31,6 +31,7 @@ static const struct {
     {"BOARDS_LINE_NOT_UNDERSTOOD", BOARDS_LINE_NOT_UNDERSTOOD, 9},
     {"BOARDS_WRONG_PACK_SIZE", BOARDS_WRONG_PACK_SIZE, 10},
     {"BOARDS_WRONG_LIST_SIZE", BOARDS_WRONG_LIST_SIZE, 11},
+    {"BOARDS_BLANK", BOARDS_BLANK, 12},
 };
 
 static void check_constants(void) {
@@ -42,7 +43,7 @@ static void check_constants(void) {
 }
 
 static void check_reasons(void) {
-    for (uint32_t a = 0; a <= 11; a++) {
+    for (uint32_t a = 0; a <= 12; a++) {
         TRYING("boards_reason(%" PRIu32 ")", a);
         const char *reason = boards_reason(a);
         if (reason == NULL || reason[0] == 0 || reason[strlen(reason) - 1] == '.')
@@ -52,12 +53,14 @@ static void check_reasons(void) {
         }
     }
     for (uint32_t bit = 0; bit < 32; bit++) {
-        uint32_t others[] = {12 + bit, (uint32_t)1 << bit, 0xffffffff >> bit};
+        uint32_t others[] = {13 + bit, (uint32_t)1 << bit, 0xffffffff >> bit};
         for (size_t i = 0; i < COUNT(others); i++) {
             TRYING("boards_reason(%" PRIu32 ")", others[i]);
             if (boards_reason(others[i]) == NULL) DIFFERS("it is NULL");
         }
     }
+    TRYING("the sentence that a player reads");
+    if (strcmp(boards_reason(12), "this slot was never saved") != 0) DIFFERS("it is: %s", boards_reason(12));
 }
 
 /* The calls that open a block look at boards_payload_length too: here is each length, among bytes that are not zero. */

@@ -14,6 +14,9 @@ static uint8_t some[2][MOST], sealed[KEYS][MOST];
 static uint8_t run[KEYS][129 * SIZE];
 static uint16_t lists[2][129];
 
+/* For blocks and runs that are blank. */
+static const uint8_t zeros[129 * SIZE];
+
 /* The lengths of keys that are tried; the group of keys has more. */
 static const size_t keys_tried[] = {0, 1, 15, 16, 17, 24, 31, 32, 33, 64};
 
@@ -41,12 +44,13 @@ static void spoil(call *c, uint32_t number) {
     case 8: c->pack ^= 1; break;
     case 10: c->data.length++; break;
     case 11: c->list.length = 2; break;
+    case 12: c->data.bytes = zeros; break;
     }
 }
 
 /* A call that is good but for these two numbers, which may be the same one; number 1 by each of the lengths above. */
 static void hold_two(const call *good, uint32_t a, uint32_t b) {
-    int damaged = a == 8 || b == 8;
+    int damaged = says_failed(a) || says_failed(b);
     call c = *good;
     spoil(&c, a);
     if (b != a) spoil(&c, b);
@@ -103,15 +107,17 @@ static void refuse_seal(void) {
     }
 }
 
-/* The block is that of place 3, cut short or with bytes behind it where its length is another, or one of any bytes. */
+/* The block is that of place 3, cut short or with bytes behind it where its length is another, or one of any bytes, or
+   of zeros. */
 static void refuse_open(void) {
     call c = {.name = OPEN, .key = key_of(0), .pack = 1};
-    for (size_t i = 0; i < COUNT(keys_tried) * COUNT(blocks) * COUNT(places) * 2; i++) {
+    for (size_t i = 0; i < COUNT(keys_tried) * COUNT(blocks) * COUNT(places) * 3; i++) {
         size_t rest = i;
         c.key.length = keys_tried[take(&rest, COUNT(keys_tried))];
         c.data.length = blocks[take(&rest, COUNT(blocks))];
         c.place = places[take(&rest, COUNT(places))];
-        c.data.bytes = rest == 0 ? sealed[sealed_for(c.key.length)] : some[1];
+        const uint8_t *const kinds[] = {sealed[sealed_for(c.key.length)], some[1], zeros};
+        c.data.bytes = kinds[rest];
         hold_refused(&c, rest != 0 || c.place != 3);
     }
 }
@@ -127,21 +133,24 @@ static void refuse_find(void) {
     }
 }
 
-/* Runs and lists of lengths that fit each other and of others. The group of runs has all lengths of runs. */
+/* Runs and lists of lengths that fit each other and of others, the runs sealed or of zeros. The group of runs has all
+   lengths of runs. */
 static void refuse_run(function name) {
     static const size_t lengths[] = {0, 511, 512, 513, 1024, 65536, 66048};
     static const size_t counts[] = {0, 1, 2, 128, 129};
     static const uint32_t from[] = {3, 65408, 65409, 65535, 65536, 0xffffff80, 0xffffffff};
     call c = {.name = name, .key = key_of(0), .pack = 1};
-    for (size_t i = 0; i < COUNT(keys_tried) * COUNT(lengths) * COUNT(counts) * COUNT(from) * COUNT(lists); i++) {
+    for (size_t i = 0; i < COUNT(keys_tried) * COUNT(lengths) * COUNT(counts) * COUNT(from) * COUNT(lists) * 2; i++) {
         size_t rest = i;
         c.key.length = keys_tried[take(&rest, COUNT(keys_tried))];
-        c.data = (slice){run[sealed_for(c.key.length)], lengths[take(&rest, COUNT(lengths))]};
+        c.data.length = lengths[take(&rest, COUNT(lengths))];
         c.list.length = 2 * counts[take(&rest, COUNT(counts))];
         c.place = from[take(&rest, COUNT(from))];
-        c.list.bytes = (const uint8_t *)lists[rest];
-        c.failed_place = c.place == 3 ? 5 : c.place;
-        hold_refused(&c, name == OPEN_RUN && (c.place != 3 || c.data.length > 1024));
+        c.list.bytes = (const uint8_t *)lists[take(&rest, COUNT(lists))];
+        c.data.bytes = rest == 0 ? run[sealed_for(c.key.length)] : zeros;
+        int two_good = rest == 0 && c.place == 3;
+        c.failed_place = two_good ? 5 : c.place;
+        hold_refused(&c, name == OPEN_RUN && (!two_good || c.data.length > 1024));
     }
 }
 

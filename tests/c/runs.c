@@ -8,7 +8,7 @@
 #include <inttypes.h>
 #include <string.h>
 
-enum { SIZE = 512, MOST = 128, BLOCKS = 130, ROOM = BLOCKS * SIZE + 1 };
+enum { SIZE = 512, MOST = 128, BLOCKS = 130, ROOM = BLOCKS * SIZE + 1, NONE = -1 };
 
 #define LARGEST UINT32_MAX /* of places */
 
@@ -49,10 +49,12 @@ static call sealing_of(size_t length, size_t count, uint32_t place) {
     return c;
 }
 
-static call opening_of(const uint8_t *run, size_t length, size_t count, uint32_t place, int damaged) {
+/* The first block that will not open is the one of this number, counted from 0, or there is NONE. */
+static call opening_of(const uint8_t *run, size_t length, size_t count, uint32_t place, int failing) {
     call c = {.name = OPEN_RUN, .key = key, .data = {run, length}, .pack = pack, .place = place};
     c.list = (slice){(const uint8_t *)any_numbers, 2 * count};
-    c.number = first(&c, damaged);
+    c.failed_place = place + (uint32_t)failing;
+    c.number = first(&c, failing != NONE);
     c.after = c.number == 0 ? plain : run;
     c.list_after = c.number == 0 ? (const uint8_t *)lengths : c.list.bytes;
     return c;
@@ -60,8 +62,7 @@ static call opening_of(const uint8_t *run, size_t length, size_t count, uint32_t
 
 /* The run is not opened, and the place that failed is told. */
 static void hold_failing(const uint8_t *run, uint32_t n, uint32_t place, uint32_t failing) {
-    call c = opening_of(run, SIZE * n, n, place, 1);
-    c.failed_place = failing;
+    call c = opening_of(run, SIZE * n, n, place, (int)failing);
     hold(&c);
 }
 
@@ -90,10 +91,9 @@ static void hold_edges(void) {
         uint32_t place = edges[i].place;
         TRYING("the edges");
         if (edges[i].sealing == 0) make((uint32_t)count, place, 1);
-        call seal = sealing_of(length, count, place), open = opening_of(before, length, count, place, 1);
+        call seal = sealing_of(length, count, place), open = opening_of(before, length, count, place, 0);
         seal.number = edges[i].sealing;
         open.number = edges[i].opening;
-        open.failed_place = place;
         hold(&seal);
         hold(&open);
     }
@@ -103,7 +103,7 @@ static void hold_edges(void) {
 static void hold_one_by_one(uint32_t n, uint32_t place) {
     TRYING("a run of %" PRIu32 " blocks", n);
     make(n, place, n);
-    call seal = sealing_of(SIZE * n, n, place), open = opening_of(sealed, SIZE * n, n, place, 0);
+    call seal = sealing_of(SIZE * n, n, place), open = opening_of(sealed, SIZE * n, n, place, NONE);
     if (seal.number != 0 || open.number != 0) DIFFERS("it is not a good one");
     hold(&seal);
     hold(&open);
@@ -118,7 +118,7 @@ static void hold_lengths(void) {
         TRYING("each length of a run");
         size_t n = length / SIZE;
         for (size_t count = n > 0 ? n - 1 : 0; count <= n + 1 && count <= BLOCKS; count++) {
-            call seal = sealing_of(length, count, 0), open = opening_of(sealed, length, count, 0, 0);
+            call seal = sealing_of(length, count, 0), open = opening_of(sealed, length, count, 0, NONE);
             hold(&seal);
             hold(&open);
         }
@@ -130,7 +130,7 @@ static void hold_lengths(void) {
 static void hold_more(uint32_t n, size_t more) {
     TRYING("a list of %" PRIu32 " under a count of %zu", n, n + more);
     make(n, 9, 8);
-    call seal = sealing_of(SIZE * n, n, 9), open = opening_of(sealed, SIZE * n, n, 9, 0);
+    call seal = sealing_of(SIZE * n, n, 9), open = opening_of(sealed, SIZE * n, n, 9, NONE);
     seal.more = open.more = more;
     seal.number = open.number = 11;
     seal.after = before;
@@ -156,31 +156,65 @@ static void hold_numbers(uint32_t n) {
     }
 }
 
-/* One block damaged, in each place of the run in turn. */
+/* What becomes of a block of the run: it is left as it is, damaged, or overwritten with zeros. */
+enum { LEFT, DAMAGED, ZEROS, WAYS };
+
+static uint8_t run[ROOM];
+
+static void overwrite(uint32_t i, uint32_t way) {
+    uint8_t *block = run + SIZE * i;
+    if (way == DAMAGED) block[37 * i % SIZE] ^= 0x10;
+    if (way == ZEROS) memset(block, 0, SIZE);
+}
+
+/* One block damaged, or of zeros, in each place of the run in turn. */
 static void hold_damaged(uint32_t n, uint32_t place) {
     make(n, place, 4);
-    for (uint32_t i = 0; i < n; i++) {
-        TRYING("block %" PRIu32 " of %" PRIu32 " damaged", i, n);
-        uint8_t *byte = sealed + SIZE * i + (37 * i + n) % SIZE;
-        *byte ^= 0x10;
-        hold_failing(sealed, n, place, place + i);
-        *byte ^= 0x10;
+    for (uint32_t i = 0; i < 2 * n; i++) {
+        uint32_t at = i / 2, way = i % 2 == 0 ? DAMAGED : ZEROS;
+        TRYING("block %" PRIu32 " of %" PRIu32 " %s", at, n, way == DAMAGED ? "damaged" : "of zeros");
+        memcpy(run, sealed, SIZE * n);
+        overwrite(at, way);
+        hold_failing(run, n, place, at);
     }
 }
 
-/* Two blocks damaged, and two that have changed places. */
+/* Each block left, damaged or of zeros, in all ways: the first that is not left is told, with the number for it. */
+static void hold_ways(uint32_t n, uint32_t all) {
+    make(n, 9, 9);
+    for (uint32_t ways = 1; ways < all; ways++) {
+        uint32_t failing = n;
+        TRYING("way %" PRIu32 " of a run of %" PRIu32, ways, n);
+        memcpy(run, sealed, SIZE * n);
+        for (uint32_t i = n, rest = ways; i-- > 0; rest /= WAYS) {
+            overwrite(i, rest % WAYS);
+            if (rest % WAYS != LEFT) failing = i;
+        }
+        hold_failing(run, n, 9, failing);
+    }
+}
+
+/* Two blocks damaged or of zeros, and two that have changed places. */
 static void hold_two(uint32_t n, uint32_t i, uint32_t j) {
-    static uint8_t run[ROOM];
     TRYING("blocks %" PRIu32 " and %" PRIu32 " of %" PRIu32, i, j, n);
     make(n, 258, 5);
-    memcpy(run, sealed, SIZE * n);
-    run[SIZE * i + 511] ^= 1;
-    run[SIZE * j] ^= 1;
-    hold_failing(run, n, 258, 258 + i);
+    for (uint32_t ways = 0; ways < 4; ways++) {
+        memcpy(run, sealed, SIZE * n);
+        overwrite(i, ways < 2 ? DAMAGED : ZEROS);
+        overwrite(j, ways % 2 == 0 ? DAMAGED : ZEROS);
+        hold_failing(run, n, 258, i);
+    }
     memcpy(run, sealed, SIZE * n);
     memcpy(run + SIZE * i, sealed + SIZE * j, SIZE);
     memcpy(run + SIZE * j, sealed + SIZE * i, SIZE);
-    hold_failing(run, n, 258, 258 + i);
+    hold_failing(run, n, 258, i);
+}
+
+/* A run of zeros: the first block is told. */
+static void hold_zeros(uint32_t n, uint32_t place) {
+    TRYING("a run of %" PRIu32 " blocks of zeros", n);
+    memset(run, 0, SIZE * n);
+    hold_failing(run, n, place, 0);
 }
 
 /* The blocks of a run for another key, pack or place: the first one fails. */
@@ -190,15 +224,14 @@ static void hold_others(void) {
     make(3, 100, 6);
     memcpy(other, key.bytes, key.length);
     other[key.length - 1] ^= 1;
-    call c = opening_of(sealed, 3 * SIZE, 3, 100, 1);
-    c.failed_place = 100;
+    call c = opening_of(sealed, 3 * SIZE, 3, 100, 0);
     c.key.bytes = other;
     hold(&c);
     c.key = key;
     c.pack = pack ^ (uint64_t)1 << 63;
     hold(&c);
-    hold_failing(sealed, 3, 99, 99);
-    hold_failing(sealed, 3, 101, 101);
+    hold_failing(sealed, 3, 99, 0);
+    hold_failing(sealed, 3, 101, 0);
 }
 
 /* "If a run opens, and still opens after one block's bytes are changed, that change does not alter what the others open
@@ -210,7 +243,7 @@ static void hold_changed(uint32_t n) {
         fill(before + SIZE * i, SIZE, 100 + i);
         lengths[i] = 200;
         make_block(i, 11 + i);
-        call c = opening_of(sealed, SIZE * n, n, 11, 0);
+        call c = opening_of(sealed, SIZE * n, n, 11, NONE);
         hold(&c);
     }
 }
@@ -220,6 +253,7 @@ static void hold_runs(slice k) {
     static const uint32_t pairs[][3] = {{2, 0, 1}, {3, 0, 2}, {3, 1, 2}, {40, 5, 20}, {40, 38, 39}, {MOST, 0, 127}};
     key = k;
     hold_edges();
+    for (uint32_t n = 1, all = WAYS; n <= 4; n++, all *= WAYS) hold_ways(n, all);
     hold_lengths();
     for (size_t i = 0; i < COUNT(lists); i++) {
         hold_more(lists[i], 1);
@@ -230,6 +264,7 @@ static void hold_runs(slice k) {
         hold_one_by_one(counts[i], 1000);
         hold_one_by_one(counts[i], 65536 - counts[i]);
         hold_damaged(counts[i], 65536 - counts[i]);
+        hold_zeros(counts[i], 65536 - counts[i]);
     }
     for (size_t i = 0; i < COUNT(pairs); i++) hold_two(pairs[i][0], pairs[i][1], pairs[i][2]);
     hold_numbers(1);

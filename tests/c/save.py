@@ -14,6 +14,7 @@ import pathlib
 import random
 import re
 import resource
+import shlex
 import subprocess
 import tempfile
 
@@ -24,6 +25,7 @@ from harness import (
 from pack import LAST_PLACE, MOST, SIZE
 
 BLOCKS = 128  # the most that a pack has
+EMPTY = None  # in the place of a payload
 
 RNG = random.Random("save: keys and boards")
 KEYS = RNG.randbytes(16), RNG.randbytes(32)
@@ -33,17 +35,35 @@ BOARDS = {f"b{length}": RNG.randbytes(length)
 
 DEFINED = re.compile(r"^#define (BOARDS_\w+) (\d+)\b", re.MULTILINE)
 RETURNED = re.compile(r'case (BOARDS_\w+): return "([^"]+)";')
-REFUSED = (1, 6, 8, 10)  # what the program can meet
+REFUSED = (1, 6, 8, 10, 12)  # what the program can meet
 
 # What the program says in its own words.
-NO_END = "the end of the last board is missing"
+NO_END = "the end of this board is missing"
 NO_ROOM = "the board does not fit in: a pack has 128 blocks at most"
 NOT_WHOLE = ("a board was not saved whole: the disk is full, or another "
              "program added to the file")
 TOO_FEW = "there are not so many boards from here on"
 THERE = "there is such a file already"
 SAVED = re.compile(rb"\w+: first place (\d+), number of blocks \d+\n")
-NOT_SAVED = re.compile(rb"save: pack: place \d+: (.+)\n")
+NOT_SAVED = re.compile(rb"save: pack: (?:place \d+: )?(.+)\n")
+
+
+# With this the program runs a command between its look at the pack file and
+# what it writes there: before it seals a board.
+MEANWHILE = """
+#include <boards.h>
+#include <stdlib.h>
+#define LENT const uint8_t *key, size_t key_length, uint64_t pack, \\
+    uint32_t first, const uint16_t *lengths, size_t count, \\
+    uint8_t *run, size_t length
+uint32_t __real_boards_seal_run(LENT);
+uint32_t __wrap_boards_seal_run(LENT);
+uint32_t __wrap_boards_seal_run(LENT) {
+    if (system(getenv("MEANWHILE")) != 0) abort();
+    return __real_boards_seal_run(key, key_length, pack, first, lengths,
+                                  count, run, length);
+}
+"""
 
 
 def sentences(prefix):
@@ -91,16 +111,20 @@ class Desk:
         (self.folder / name).write_bytes(data)
 
     def sealed(self, contents, number=NUMBER, first=0):
-        """The blocks of these payloads, from a place on, by the reference."""
-        return b"".join(pack.seal(self.key, payload, number, place)
-                        for place, payload in enumerate(contents, first))
+        """The blocks of these payloads, from a place on, by the reference;
+        EMPTY stands for an empty slot."""
+        return b"".join(
+            bytes(SIZE) if payload is EMPTY
+            else pack.seal(self.key, payload, number, place)
+            for place, payload in enumerate(contents, first))
 
     def save(self, *arguments, key="key", number=NUMBER, pack="pack",
              **options):
         return self.run(key, str(number), pack, *arguments, **options)
 
-    def run(self, *arguments, **options):
-        return ended([self.program, *arguments], cwd=self.folder, **options)
+    def run(self, *arguments, program=None, **options):
+        return ended([program or self.program, *arguments], cwd=self.folder,
+                     **options)
 
     def begins(self, *arguments, key="key"):
         """The program, with pipes to its three files."""
@@ -109,9 +133,14 @@ class Desk:
             cwd=self.folder, stdin=subprocess.PIPE, stdout=subprocess.PIPE,
             stderr=subprocess.PIPE)
 
+    def others(self):
+        """Another key, and another pack number."""
+        self.put("other", changed(self.key, 3))
+        return {"key": "other"}, {"number": NUMBER + 1}
+
     # What the program has to say.
 
-    def refusal(self, number, place):
+    def refusal(self, number, place=None):
         return said(self.sentence[number], place)
 
     def report(self, answers, whole):
@@ -120,9 +149,9 @@ class Desk:
         lines = [f"place {place}: "
                  + (self.sentence[answer] if answer else "good")
                  for place, answer in enumerate(answers)]
-        bad = sum(answer != 0 for answer in answers)
         if whole:
-            lines.append(f"number of blocks {len(answers)}, not good {bad}")
+            lines.append(f"number of blocks {len(answers)}, never saved "
+                         f"{answers.count(12)}, damaged {answers.count(8)}")
         return "".join(line + "\n" for line in lines)
 
     # What it does.
@@ -165,14 +194,14 @@ class Desk:
     def new_names(self, count):
         return [f"new{i}" for i in range(count)]
 
-    def reports(self, answers, end=True, whole=True, **options):
-        """What check says of blocks with these answers, the last of which is
-        the end of a board or not, in a file that is a pack or not."""
-        error = (self.sentence[10] if not whole
-                 else "not all blocks are good" if any(answers)
-                 else "" if end else NO_END)
+    def reports(self, answers, no_end=None, whole=True, **options):
+        """What check says of blocks with these answers, where a board stops
+        at that place without its end, in a file that is a pack or not."""
+        error = (said(self.sentence[10]) if not whole
+                 else said("not all saved blocks are good") if 8 in answers
+                 else "" if no_end is None else said(NO_END, no_end))
         says(self.save("check", **options), self.report(answers, whole),
-             f"save: pack: {error}\n" if error else "", 1 if error else 0)
+             error, 1 if error else 0)
 
     def is_no_pack(self, answers=(), places=(0,)):
         """Nothing is added to the pack file or given of it, and check says
@@ -182,8 +211,7 @@ class Desk:
         for place in places:
             self.gives_not(place, self.refusal(10, place))
             self.loads_not(place, self.refusal(10, place))
-        fails(self.save("add", "b1"),
-              self.refusal(10, max(0, min(len(before) // SIZE - 1, BLOCKS))))
+        self.adds_not(self.refusal(10))
         self.keeps("all four", before)
 
     # The pack file.
@@ -199,9 +227,10 @@ class Desk:
             raise Differs("a pack file was made")
 
 
-def said(sentence, place, file="pack"):
-    """What the program says of a place."""
-    return f"save: {file}: place {place}: {sentence}\n"
+def said(sentence, place=None, file="pack"):
+    """What the program says of a place, or of the whole file."""
+    at = "" if place is None else f"place {place}: "
+    return f"save: {file}: {at}{sentence}\n"
 
 
 def saved(name, place, board):
@@ -264,7 +293,7 @@ def three_blocks(desk):
          "b1236: first place 0, number of blocks 3\n")
     compare("the pack file's length", b"1536", b"%d" % len(desk.packed()))
     says(desk.save("check"), "place 0: good\nplace 1: good\nplace 2: good\n"
-         "number of blocks 3, not good 0\n")
+         "number of blocks 3, never saved 0, damaged 0\n")
 
 
 def one_by_one(desk):
@@ -415,8 +444,6 @@ def damaged_last(desk):
     for byte in (0, 1, 300, 511):
         desk.put("pack", changed(good, 4 * SIZE + byte))
         desk.adds_not(desk.refusal(8, 4))
-    desk.put("pack", good[:4 * SIZE] + bytes(SIZE))
-    desk.adds_not(desk.refusal(8, 4))
     desk.gives(0, BOARDS["b1236"])
     desk.put("pack", changed(good, 3 * SIZE))
     desk.adds({"b1": BOARDS["b1"]}, 5)
@@ -507,13 +534,145 @@ def no_end(desk):
         desk.adds_not(said(NO_END, blocks - 1))
         desk.adds_not(said(NO_END, blocks - 1), "b0")
         desk.gives(0, BOARDS["b1"])
-        desk.reports([0] * blocks, end=False)
+        desk.reports([0] * blocks, no_end=blocks - 1)
     desk.put("pack", good[:SIZE])
     desk.adds({"b1236": BOARDS["b1236"]}, 1)
     desk.keeps("add", good)
     desk.put("pack", b"")
     desk.adds(boards)
     desk.keeps("add", good)
+
+
+# Empty slots.
+
+SLOTS = 1, 5, BLOCKS  # of a new save file
+
+
+def nothing_saved(desk):
+    """A new save file is not damaged, under any key and number; every slot of
+    it was never saved, and past its end there is none."""
+    for slots in SLOTS:
+        new = bytes(SIZE * slots)
+        desk.put("pack", new)
+        for options in ({}, *desk.others()):
+            desk.reports([12] * slots, **options)
+            for place in {0, slots // 2, slots - 1}:
+                desk.gives_not(place, desk.refusal(12, place), **options)
+                desk.loads_not(place, desk.refusal(12, place), **options)
+        desk.gives_not(slots, desk.refusal(6, slots))
+        desk.loads_not(slots, desk.refusal(6, slots))
+        desk.keeps("get, chapter and check", new)
+
+
+def holds(desk, contents, slots):
+    """The pack file is that of these payloads in a file of so many slots, and
+    longer only where they do not suffice; check says so."""
+    empty = max(0, slots - len(contents))
+    desk.keeps("add", desk.sealed([*contents, *[EMPTY] * empty]))
+    desk.reports([0] * len(contents) + [12] * empty)
+
+
+def into_slots(desk):
+    """Boards fill a new save file, one by one and at once, and it grows when
+    its slots are taken. A chapter is given in front of those that are left."""
+    names = "b1236", "b1", "b497", "b0", "b5000"
+    boards = {name: BOARDS[name] for name in names}
+    first, places = layout(boards)
+    for slots in SLOTS:
+        desk.put("pack", bytes(SIZE * slots))
+        for i, (name, board) in enumerate(boards.items(), 1):
+            desk.adds({name: board}, first[name])
+            up_to = list(boards.values())[:i]
+            holds(desk, places[:first[name] + len(payloads(board))], slots)
+            desk.gives(first[name], board)
+            desk.loads(0, up_to)
+            desk.loads_not(0, said(TOO_FEW, 0), i + 1)
+        desk.put("pack", bytes(SIZE * slots))
+        desk.adds(boards)
+        holds(desk, places, slots)
+    return f"{len(places)} blocks"
+
+
+def slot_between(desk):
+    """Slots in front of boards, between them and behind them. The boards are
+    given, and a new one goes behind the last."""
+    board = payloads(BOARDS["b1236"])
+    contents = [EMPTY, b"x", EMPTY, EMPTY, *board, EMPTY]
+    desk.put("pack", desk.sealed(contents))
+    desk.reports([12, 0, 12, 12, 0, 0, 0, 12])
+    desk.gives(1, b"x")
+    desk.gives(4, BOARDS["b1236"])
+    desk.loads(4, [BOARDS["b1236"]])
+    for place, empty in ((0, 0), (1, 2), (2, 2), (3, 3), (7, 7)):
+        desk.loads_not(place, desk.refusal(12, empty))
+    for place in (0, 2, 3, 7):
+        desk.gives_not(place, desk.refusal(12, place))
+    desk.adds({"b497": BOARDS["b497"]}, 7)
+    desk.keeps("add", desk.sealed(
+        [*contents[:7], *payloads(BOARDS["b497"])]))
+
+
+def slot_or_damage(desk):
+    """A bit in an empty slot makes a damaged block of it. The first of the two
+    is named by a chapter, and nothing is added behind a damaged one."""
+    good = desk.sealed([b"x", EMPTY, EMPTY, b"y", EMPTY])
+    for byte in (0, 1, 255, 495, 496, 511):
+        for place, answers, named in ((1, [0, 8, 12, 0, 12], 8),
+                                      (2, [0, 12, 8, 0, 12], 12)):
+            desk.put("pack", changed(good, SIZE * place + byte))
+            desk.reports(answers)
+            desk.loads_not(0, desk.refusal(named, 1))
+            for at in (1, 2):
+                desk.gives_not(at, desk.refusal(answers[at], at))
+                desk.loads_not(at, desk.refusal(answers[at], at))
+            desk.loads(3, [b"y"])
+        desk.put("pack", changed(good, 4 * SIZE + byte))
+        desk.reports([0, 12, 12, 0, 8])
+        desk.loads_not(3, desk.refusal(8, 4))
+        desk.adds_not(desk.refusal(8, 4))
+
+
+def slot_behind_others(desk):
+    """Boards of another key or number in front of empty slots: nothing is
+    added behind them, and what is empty is so under every key."""
+    desk.put("pack", desk.sealed([b"x", b"y", EMPTY]))
+    for options in desk.others():
+        desk.reports([8, 8, 12], **options)
+        desk.loads_not(0, desk.refusal(8, 0), **options)
+        desk.gives_not(2, desk.refusal(12, 2), **options)
+        desk.adds_not(desk.refusal(8, 1), **options)
+    desk.adds({"b1": BOARDS["b1"]}, 2)
+
+
+def end_never_saved(desk):
+    """The last block of a board was zeroed, at the end of the file and before
+    other boards: its end is missing, and nothing is added behind it."""
+    for name in ("b496", "b1236"):
+        *full, _ = payloads(BOARDS[name])
+        last = len(full)
+        for slots in (1, 3):
+            desk.put("pack", desk.sealed([b"x", *full, *[EMPTY] * slots]))
+            desk.reports([0] * (last + 1) + [12] * slots, no_end=last)
+            desk.gives_not(1, desk.refusal(12, last + 1))
+            desk.loads(0, [b"x"])
+            desk.loads_not(0, said(TOO_FEW, 0), 2)
+            desk.loads_not(1, said(TOO_FEW, 1))
+            desk.adds_not(said(NO_END, last))
+        desk.put("pack", desk.sealed([*full, EMPTY, b"x"]))
+        desk.reports([0] * last + [12, 0], no_end=last - 1)
+        desk.gives_not(0, desk.refusal(12, last))
+        desk.loads_not(0, desk.refusal(12, last))
+        desk.adds({"b1": BOARDS["b1"]}, last + 2)
+
+
+def slots_cut(desk):
+    """Files of zeros that are no packs."""
+    for length in (1, SIZE - 1, 5 * SIZE + 1, BLOCKS * SIZE + 1):
+        desk.put("pack", bytes(length))
+        desk.is_no_pack([12] * (length // SIZE), (0, length // SIZE))
+    for length in ((BLOCKS + 1) * SIZE, 2 * BLOCKS * SIZE):
+        desk.put("pack", bytes(length))
+        desk.is_no_pack([], (0, BLOCKS))
 
 
 # Places.
@@ -537,42 +696,49 @@ def empty(desk):
 
 
 def last_places(desk):
-    """Packs of 127 and 128 blocks: what is left of them takes a board or not,
-    and all of the places 0 to n - 1 are there."""
+    """Packs of 127 and 128 blocks, in a file that grows and in one of 128
+    slots: what is left of them takes a board or not, and all of the places 0
+    to n - 1 are there."""
     long = RNG.randbytes(MOST * (BLOCKS - 2) + 1)
     desk.put("long", long)
-    desk.adds({"long": long})
     full = said(NO_ROOM, BLOCKS)
-    desk.gives_not(BLOCKS - 1, desk.refusal(6, BLOCKS - 1))
-    for name in ("b496", "b5000", "long"):
-        desk.adds_not(full, name)
-    desk.adds({"b495": BOARDS["b495"]}, BLOCKS - 1)
-    for name in ("b0", "b1", "b496"):
-        desk.adds_not(full, name)
-    desk.gives(0, long)
-    desk.gives(BLOCKS - 2, long[-1:])
-    desk.gives(BLOCKS - 1, BOARDS["b495"])
-    for place in (BLOCKS, BLOCKS + 1, 2 * BLOCKS, LAST_PLACE, LAST_PLACE + 1,
-                  2**32 - 1):
-        desk.gives_not(place, desk.refusal(6, place))
-    desk.reports([0] * BLOCKS)
+    for slots, answer in ((0, 6), (BLOCKS, 12)):
+        desk.put("pack", bytes(SIZE * slots))
+        desk.adds({"long": long})
+        desk.gives_not(BLOCKS - 1, desk.refusal(answer, BLOCKS - 1))
+        for name in ("b496", "b5000", "long"):
+            desk.adds_not(full, name)
+        desk.adds({"b495": BOARDS["b495"]}, BLOCKS - 1)
+        for name in ("b0", "b1", "b496"):
+            desk.adds_not(full, name)
+        desk.gives(0, long)
+        desk.gives(BLOCKS - 2, long[-1:])
+        desk.gives(BLOCKS - 1, BOARDS["b495"])
+        for place in (BLOCKS, BLOCKS + 1, 2 * BLOCKS, LAST_PLACE,
+                      LAST_PLACE + 1, 2**32 - 1):
+            desk.gives_not(place, desk.refusal(6, place))
+        desk.reports([0] * BLOCKS)
 
 
 def longest_board(desk):
-    """63,487 bytes fill a pack, as the reference seals them. There is no room
-    for a byte more, nor for any other board before it."""
+    """63,487 bytes fill a pack, as the reference seals them, in a file that
+    grows and in one of 128 slots. There is no room for a byte more, nor for
+    any other board before it."""
     board = RNG.randbytes(MOST * BLOCKS - 1)
     desk.put("longest", board)
     desk.put("longer", board + b"x")
-    fails(desk.save("add", "longer"), said(NO_ROOM, BLOCKS))
-    desk.keeps("add", b"")
-    desk.adds({"longest": board})
-    desk.keeps("add", desk.sealed(payloads(board)))
-    desk.gives(0, board)
-    desk.pack.unlink()
-    says(desk.save("add", "b1", "longest", "b1"),
-         saved("b1", 0, BOARDS["b1"]), said(NO_ROOM, BLOCKS), 1)
-    desk.reports([0])
+    full = said(NO_ROOM, BLOCKS)
+    for slots in (0, BLOCKS):
+        desk.put("pack", bytes(SIZE * slots))
+        desk.adds_not(full, "longer")
+        desk.adds_not(full, "/dev/zero")
+        desk.adds({"longest": board})
+        holds(desk, payloads(board), slots)
+        desk.gives(0, board)
+        desk.put("pack", bytes(SIZE * slots))
+        says(desk.save("add", "b1", "longest", "b1"),
+             saved("b1", 0, BOARDS["b1"]), full, 1)
+        holds(desk, [BOARDS["b1"]], slots)
     return f"{len(board)} bytes"
 
 
@@ -595,7 +761,7 @@ def too_long(desk):
         with contextlib.suppress(OSError):
             os.truncate(desk.pack, length)
         desk.gives_not(0, desk.refusal(10, 0))
-        fails(desk.save("add", "b1"), desk.refusal(10, BLOCKS))
+        fails(desk.save("add", "b1"), desk.refusal(10))
         desk.reports([], whole=False)
 
 
@@ -613,17 +779,32 @@ def endless(desk):
 
 def another_between(desk):
     """When more has been written to a pipe than it holds, the program has
-    begun to read its board, and has looked for its place before. Then another
-    one adds a board."""
+    begun to read its board. Then another one adds a board, and this one goes
+    behind it: to the end of the file, or into empty slots, or both."""
+    for slots in (0, 4, 40):
+        desk.put("pack", desk.sealed([BOARDS["b1"], *[EMPTY] * slots]))
+        with desk.begins("add", "/dev/stdin") as process:
+            board = bytes(
+                fcntl.fcntl(process.stdin, fcntl.F_SETPIPE_SZ, 4096) + 1)
+            process.stdin.write(board)
+            desk.adds({"b1236": BOARDS["b1236"]}, 1)
+            says(finished(process), saved("/dev/stdin", 4, board))
+        desk.loads(0, [BOARDS["b1"], BOARDS["b1236"], board])
+
+
+def another_at_once(desk):
+    """Another one adds a board when this one has looked for its place, which
+    is told by the end of the file. The other's board is good."""
     desk.adds({"b1": BOARDS["b1"]})
-    with desk.begins("add", "/dev/stdin") as process:
-        board = bytes(fcntl.fcntl(process.stdin, fcntl.F_SETPIPE_SZ, 4096) + 1)
-        process.stdin.write(board)
-        desk.adds({"b1236": BOARDS["b1236"]}, 1)
-        fails(finished(process), said(NOT_WHOLE, 1))
+    other = shlex.join([str(desk.program), "key", str(NUMBER), "pack", "add",
+                        "b1236"])
+    fails(desk.save("add", "b497", program=paused(desk.program),
+                    env={**os.environ, "MEANWHILE": f"{other} >told"}),
+          said(NOT_WHOLE, 1))
+    desk.loads_not(0, desk.refusal(8, 4))
     desk.gives(0, BOARDS["b1"])
     desk.gives(1, BOARDS["b1236"])
-    desk.adds_not(desk.refusal(8, 3 + len(payloads(board))))
+    desk.adds_not(desk.refusal(8, 5))
 
 
 def saved_or_told(desk, name, board, result):
@@ -694,20 +875,17 @@ def usage(desk):
 
 def files_that_fail(desk):
     """Files that are missing, and a directory in their place. Where a board
-    cannot be opened no pack file is made, and an empty one where it cannot be
-    read."""
+    cannot be opened or read no pack file is made."""
     missing = reason(errno.ENOENT)
     directory = reason(errno.EISDIR)
     for key, what in (("none", missing), (".", directory)):
         fails(desk.save("add", "b1", key=key), f"save: {key}: {what}\n")
-    for name in ("none", ""):
-        fails(desk.save("add", name), f"save: {name}: {missing}\n")
+    for name, what in (("none", missing), ("", missing), (".", directory)):
+        fails(desk.save("add", name), f"save: {name}: {what}\n")
     desk.has_no_pack()
     for command in (["get", "0"], ["chapter", "0", "new"], ["check"]):
         fails(desk.save(*command), f"save: pack: {missing}\n")
         desk.has_no_pack()
-    fails(desk.save("add", "."), f"save: .: {directory}\n")
-    desk.keeps("add", b"")
     for command in (["add", "b1"], ["get", "0"], ["check"]):
         fails(desk.save(*command, pack="."), f"save: .: {directory}\n")
     fails(desk.save("add", "b1", pack="none/pack"),
@@ -739,14 +917,20 @@ def full_pack(desk):
     nothing is added behind what it has left. A device that is full is read as
     zeros without end, and is no pack."""
     fails(desk.save("add", "b5000", pack="/dev/full"),
-          said(desk.sentence[10], BLOCKS, "/dev/full"))
-    desk.adds({"b1": BOARDS["b1"]})
-    good = desk.packed()
-    for room, then in ((SIZE // 2, desk.refusal(10, 0)),
-                       (2 * SIZE, said(NO_END, 2)),
-                       (8 * SIZE, said(NO_END, 8)),
-                       (11 * SIZE - 1, desk.refusal(10, 10))):
+          said(desk.sentence[10], file="/dev/full"))
+    good = desk.sealed([BOARDS["b1"]])
+    for slots, room, then in ((0, SIZE // 2, desk.refusal(10)),
+                              (0, 2 * SIZE, said(NO_END, 2)),
+                              (0, 8 * SIZE, said(NO_END, 8)),
+                              (0, 11 * SIZE - 1, desk.refusal(10)),
+                              (2, SIZE // 2, desk.refusal(8, 1)),
+                              (2, SIZE, said(NO_END, 1)),
+                              (2, 2 * SIZE, said(NO_END, 2)),
+                              (2, 8 * SIZE, said(NO_END, 8)),
+                              (2, 11 * SIZE - 1, desk.refusal(10))):
         most = len(good) + room
+        before = good + bytes(SIZE * slots)
+        desk.put("pack", before)
         fails(desk.save(
             "add", "b5000", restore_signals=False,
             preexec_fn=lambda: resource.setrlimit(
@@ -754,7 +938,7 @@ def full_pack(desk):
         compare("the pack file before that place", good,
                 desk.packed()[:len(good)])
         desk.adds_not(then)
-        desk.put("pack", good)
+        desk.put("pack", before)
         desk.gives(0, BOARDS["b1"])
 
 
@@ -778,6 +962,13 @@ RUNS = {
     "keys of other lengths": key_lengths,
     "a pack file cut within a block": cut,
     "a pack file cut within a board": no_end,
+    "a new save file": nothing_saved,
+    "boards into a new save file": into_slots,
+    "empty slots between boards": slot_between,
+    "an empty slot and a damaged one": slot_or_damage,
+    "empty slots behind boards of another key": slot_behind_others,
+    "a board whose end was never saved": end_never_saved,
+    "files of zeros that are no packs": slots_cut,
     "places past the end": past_the_end,
     "an empty pack file": empty,
     "packs of 127 and 128 blocks": last_places,
@@ -785,6 +976,7 @@ RUNS = {
     "pack files that are too long": too_long,
     "a board without end": endless,
     "a board that another program adds meanwhile": another_between,
+    "a board that another program adds at once": another_at_once,
     "twelve programs at once": many_at_once,
     "bad usage": usage,
     "files that cannot be opened or read": files_that_fail,
@@ -794,12 +986,21 @@ RUNS = {
 }
 
 
+def paused(program):
+    """The one with MEANWHILE, which stands beside it."""
+    return program.with_name("paused")
+
+
 def builds(prefix, cc, program):
     """The compiler says nothing, even when it is strict."""
     prefix = pathlib.Path(prefix)
-    says(ended([cc, "-std=c99", *STRICT, "-I", prefix / "include",
-                "-o", program, ROOT / "examples" / "save.c",
-                "-L", prefix / "lib", "-lboards"]))
+    source = program.with_name("meanwhile.c")
+    source.write_text(MEANWHILE, "ascii")
+    for made, more in ((program, []), (paused(program), [
+            source, "-Wl,--wrap=boards_seal_run"])):
+        says(ended([cc, "-std=c99", *STRICT, "-I", prefix / "include",
+                    "-o", made, ROOT / "examples" / "save.c", *more,
+                    "-L", prefix / "lib", "-lboards"]))
 
 
 def at_a_desk(run, program, prefix):

@@ -5,10 +5,21 @@ const size_t key_lengths[KEYS] = {16, 32};
 int is_key(size_t length) { return length == key_lengths[0] || length == key_lengths[1]; }
 
 const uint32_t looks[FUNCTIONS][LOOKS] = {
-    {1, 2, 3, 4}, {1, 2, 3, 4}, {1, 7, 5, 6}, {1, 7, 6, 8}, {10, 6}, {1, 10, 11, 5, 6}, {1, 10, 11, 6, 8},
+    {1, 2, 3, 4}, {1, 2, 3, 4}, {1, 7, 5, 6}, {1, 7, 6, 8, 12}, {10, 6}, {1, 10, 11, 5, 6}, {1, 10, 11, 6, 8, 12},
 };
 
-int can_meet(uint32_t a, uint32_t b) { return a != 0 && b != 0 && !(a == 3 && b == 4) && !(a == 4 && b == 3); }
+int can_meet(uint32_t a, uint32_t b) {
+    if (a > b) return can_meet(b, a);
+    return a != 0 && !(a == 3 && b == 4) && !(a == 8 && b == 12);
+}
+
+int says_failed(uint32_t number) { return number == 8 || number == 12; }
+
+int all_zero(const uint8_t *bytes, size_t length) {
+    size_t i = 0;
+    while (i < length && bytes[i] == 0) i++;
+    return i == length;
+}
 
 /* "payload over 496 bytes"; of a run, any of them. */
 static int payload_too_long(const call *c) {
@@ -27,6 +38,12 @@ static int place_too_high(const call *c) {
     return place + (c->name == SEAL_RUN || c->name == OPEN_RUN ? n : 1) > 65536;
 }
 
+/* "All 512 lent bytes are zero", of the block that fails; where fewer are lent, these. */
+static int is_blank(const call *c) {
+    size_t at = c->name == OPEN_RUN ? 512 * (size_t)(c->failed_place - c->place) : 0, length = c->data.length - at;
+    return all_zero(c->data.bytes + at, length < 512 ? length : 512);
+}
+
 int applies(uint32_t number, const call *c, int damaged) {
     switch (number) {
     case 1: return !is_key(c->key.length);
@@ -36,9 +53,10 @@ int applies(uint32_t number, const call *c, int damaged) {
     case 5: return payload_too_long(c);
     case 6: return place_too_high(c);
     case 7: return c->data.length != 512;
-    case 8: return damaged;
+    case 8: return damaged && !is_blank(c);
     case 10: return c->data.length < 512 || c->data.length > 128 * 512 || c->data.length % 512 != 0;
     case 11: return c->list.length / 2 + c->more != c->data.length / 512;
+    case 12: return damaged && is_blank(c);
     default: return 0;
     }
 }

@@ -4,7 +4,7 @@
 
 #include "call.h"
 
-enum { LOOKS = 5, KEYS = 2 }; /* the most looks of one function; and the lengths of keys */
+enum { LOOKS = 6, KEYS = 2 }; /* the most looks of one function; and the lengths of keys */
 
 /* "Key expansion must accept 16 or 32 bytes"; "number 1 now means a key of neither length". */
 extern const size_t key_lengths[KEYS];
@@ -12,14 +12,21 @@ extern const size_t key_lengths[KEYS];
 int is_key(size_t length);
 
 /* "HCH looks at 1, 2, 3, 4 in this order. Sealing looks at 1, 7, 5, 6. Opening looks at 1, 7, 6, 8." In 02, finding
-   looks at 10 first, and at 6 next; of runs, "Sealing looks at 1, 10, 11, 5, 6; opening at 1, 10, 11, 6, 8". A 0
-   stands where a function has no more. */
+   looks at 10 first, and at 6 next; of runs, "Sealing looks at 1, 10, 11, 5, 6; opening at 1, 10, 11, 6, 8"; and 12 is
+   "in the place of 8", here behind it. A 0 stands where a function has no more. */
 extern const uint32_t looks[FUNCTIONS][LOOKS];
 
-/* Whether both are numbers that can hold at once: data is never both too short and too long. */
+/* Whether both are numbers that can hold at once: data is never both too short and too long, and no block that fails
+   its check is both of zeros and not. */
 int can_meet(uint32_t a, uint32_t b);
 
-/* Whether the condition of this number holds; a damaged block fails its check, and a damaged run has such a block. */
+/* Whether the number says that a block fails its check: 8 or 12. */
+int says_failed(uint32_t number);
+
+int all_zero(const uint8_t *bytes, size_t length);
+
+/* Whether the condition of this number holds; a damaged block fails its check, and a damaged run has such a block, the
+   first of them at the place that failed. */
 int applies(uint32_t number, const call *c, int damaged);
 
 /* The number that the call has to answer: the first that applies, or 0. */

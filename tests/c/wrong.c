@@ -274,5 +274,6 @@ void wrong(void) {
     expect_reports(run_mistakes);
     wrong_keys();
     wrong_orders();
+    wrong_blanks();
     printf("%d wrong libraries are reported\n", wrong_libraries);
 }

@@ -1,5 +1,5 @@
-/* Wrong libraries, in which any one of the functions is wrong in the same way: in what it takes for its key, or in the
-   order of its refusals. */
+/* Wrong libraries, in which any one of the functions is wrong in the same way: in what it takes for its key, in the
+   order of its refusals, or in what it says and leaves of a block that fails its check. */
 #include "groups.h"
 #include "report.h"
 #include "table.h"
@@ -125,14 +125,18 @@ void wrong_keys(void) {
     }
 }
 
-/* The order of refusals. The check of a block, which cannot be looked at without the key, stands elsewhere. */
+/* The order of refusals. The check of a block, which cannot be looked at without the key, stands elsewhere; but whether
+   the block, or a run's first one, is all zeros can be seen too soon. */
 
 static uint32_t early, late; /* the first is looked at right before the second */
 
 static uint32_t in_other_order(call *c) {
+    c->failed_place = c->place;
     for (int i = 0; i < LOOKS; i++) {
         uint32_t number = looks[c->name][i];
-        if (number == late && applies(early, c, 0)) return early;
+        int too_soon = number == late && applies(early, c, early == 12);
+        if (too_soon && c->name == OPEN_RUN && early == 12) *c->failed = c->place;
+        if (too_soon) return early;
         if (applies(number, c, 0)) return number;
     }
     return answer_of(&right, c);
@@ -149,5 +153,126 @@ void wrong_orders(void) {
         snprintf(words, sizeof words, "answers %" PRIu32 " in the place of %" PRIu32, early, late);
         TRYING("a library of which %s looks at %" PRIu32 " before %" PRIu32, function_names[f], early, late);
         expect_report(&wrong_in[f], order, words, function_names[f]);
+    }
+}
+
+/* Blocks that fail. No key is known under which a block of zeros passes its check: so a library that has 12 for each of
+   them, and does not decipher it, cannot be reported here. */
+
+typedef struct {
+    const char *name;
+    size_t from, to;        /* of a block that fails, the bytes that are looked at, */
+    uint8_t bits;           /* these bits of each of them, */
+    char by;                /* put together by this operator; */
+    uint32_t zeros, others; /* and the answers if that is zero, and if not, */
+    size_t key;             /* under a key of this length, or 0 for both */
+    const char *words;
+} blank_mistake;
+
+static const blank_mistake blank_mistakes[] = {
+    {"has 8 for zeros", 0, 512, 0xff, '|', 8, 8, 0, "answers 8 in the place of 12"},
+    {"has 8 for zeros under a key of 16", 0, 512, 0xff, '|', 8, 8, 16, "answers 8 in the place of 12"},
+    {"has 8 for zeros under a key of 32", 0, 512, 0xff, '|', 8, 8, 32, "answers 8 in the place of 12"},
+    {"has 0 for zeros", 0, 512, 0xff, '|', 0, 8, 0, "answers 0 in the place of 12"},
+    {"has 12 for all that fails", 0, 512, 0xff, '|', 12, 12, 0, "answers 12 in the place of 8"},
+    {"has 8 for 12 and 12 for 8", 0, 512, 0xff, '|', 8, 12, 0, "answers 8 in the place of 12"},
+    {"looks at the first byte alone", 0, 1, 0xff, '|', 12, 8, 0, "but for a bit of byte 1:"},
+    {"looks at the last byte alone", 511, 512, 0xff, '|', 12, 8, 0, "but for a bit of byte 0:"},
+    {"does not look at the first byte", 1, 512, 0xff, '|', 12, 8, 0, "but for a bit of byte 0:"},
+    {"does not look at the last byte", 0, 511, 0xff, '|', 12, 8, 0, "but for a bit of byte 511:"},
+    {"looks at the first 256 bytes alone", 0, 256, 0xff, '|', 12, 8, 0, "but for a bit of byte 256:"},
+    {"looks at a payload's bytes alone", 0, 496, 0xff, '|', 12, 8, 0, "but for a bit of byte 496:"},
+    {"does not look at a payload's bytes", 496, 512, 0xff, '|', 12, 8, 0, "but for a bit of byte 0:"},
+    {"does not look at a byte's highest bit", 0, 512, 0x7f, '|', 12, 8, 0, "but for a bit of byte 0:"},
+    {"does not look at a byte's lowest bit", 0, 512, 0xfe, '|', 12, 8, 0, "but for a bit of byte 7:"},
+    {"adds the bytes up in 8 bits", 0, 512, 0xff, '+', 12, 8, 0, "bit 0 alone in all bytes"},
+    {"takes the exclusive or of the bytes", 0, 512, 0xff, '^', 12, 8, 0, "bit 0 alone in all bytes"},
+};
+
+static const blank_mistake *telling;
+
+/* The block that failed, or, where none did, the first one. */
+static uint8_t *told_block(const call *c, uint32_t number) {
+    size_t at = c->name == OPEN_RUN && says_failed(number) ? 512 * (size_t)(*c->failed - c->place) : 0;
+    return (uint8_t *)c->data.bytes + at;
+}
+
+static uint32_t by_some_bits(call *c) {
+    uint8_t all = 0;
+    uint32_t number = answer_of(&right, c);
+    const uint8_t *block = told_block(c, number);
+    if (!says_failed(number) || (telling->key != 0 && telling->key != c->key.length)) return number;
+    for (size_t i = telling->from; i < telling->to; i++) {
+        uint8_t byte = block[i] & telling->bits;
+        all = (uint8_t)(telling->by == '|' ? all | byte : telling->by == '^' ? all ^ byte : all + byte);
+    }
+    return all == 0 ? telling->zeros : telling->others;
+}
+
+/* As where the block is looked at after it was deciphered: of those that open, one is all zeros. */
+static uint32_t blank_when_opened(call *c) {
+    uint32_t number = answer_of(&right, c);
+    return number == 0 && all_zero(told_block(c, number), 512) ? 12 : number;
+}
+
+/* The same of those that do not open. */
+static uint32_t blank_when_deciphered(call *c) {
+    uint8_t plain[512], tweak[16] = {0};
+    uint32_t number = answer_of(&right, c);
+    if (number != 8) return number;
+    memcpy(plain, told_block(c, number), sizeof plain);
+    tweak[15] = (uint8_t)(c->name == OPEN_RUN ? *c->failed : c->place);
+    right.decipher(c->key.bytes, c->key.length, tweak, sizeof tweak, plain, sizeof plain);
+    return all_zero(plain, sizeof plain) ? 12 : 8;
+}
+
+static uint32_t decipher_blank(call *c) {
+    uint8_t tweak[16] = {0};
+    uint32_t number = answer_of(&right, c);
+    if (number != 12) return number;
+    return number + right.decipher(c->key.bytes, c->key.length, tweak, sizeof tweak, told_block(c, number), 512);
+}
+
+static uint32_t seal_blank(call *c) {
+    uint32_t number = answer_of(&right, c);
+    if (number != 12) return number;
+    return number + right.seal(c->key.bytes, c->key.length, NULL, 0, c->pack, c->place, told_block(c, number), 512);
+}
+
+static uint32_t clear_failed(call *c) {
+    uint32_t number = answer_of(&right, c);
+    if (number == 8) memset(told_block(c, number), 0, 512);
+    return number;
+}
+
+static const struct {
+    const char *name;
+    uint32_t (*wrongly)(call *c);
+    const char *words;
+} failed_mistakes[] = {
+    {"has 12 where it opened zeros", blank_when_opened, "answers 12 in the place of 0"},
+    {"has 12 where it deciphered zeros", blank_when_deciphered, "answers 12 in the place of 8"},
+    {"leaves a blank block deciphered", decipher_blank, "byte 0 of the"},
+    {"seals an empty payload into a blank block", seal_blank, "byte 0 of the"},
+    {"clears a block that fails", clear_failed, "byte 0 of the"},
+};
+
+static void expect_of_openers(const char *name, const char *words) {
+    static const function openers[] = {OPEN, OPEN_RUN};
+    for (size_t i = 0; i < COUNT(openers); i++) {
+        TRYING("a library of which %s %s", function_names[openers[i]], name);
+        expect_report(&wrong_in[openers[i]], blank, words, function_names[openers[i]]);
+    }
+}
+
+void wrong_blanks(void) {
+    wrongly = by_some_bits;
+    for (size_t i = 0; i < COUNT(blank_mistakes); i++) {
+        telling = &blank_mistakes[i];
+        expect_of_openers(telling->name, telling->words);
+    }
+    for (size_t i = 0; i < COUNT(failed_mistakes); i++) {
+        wrongly = failed_mistakes[i].wrongly;
+        expect_of_openers(failed_mistakes[i].name, failed_mistakes[i].words);
     }
 }

@@ -198,13 +198,17 @@ static uint32_t check_first_alone(OPEN_CALL) {
     return number == 8 && *failed > first ? 0 : number;
 }
 
-static uint32_t leave_open(OPEN_CALL) {
+static uint32_t left_open_with(uint32_t refusal, OPEN_CALL) {
     uint32_t number = right.open_run(OPEN);
-    for (uint32_t place = first; number == 8 && place < *failed; place++) {
+    for (uint32_t place = first; number == refusal && place < *failed; place++) {
         number += right.open(key, k, pack, place, run + SIZE * (place - first), SIZE);
     }
     return number;
 }
+
+static uint32_t leave_open(OPEN_CALL) { return left_open_with(8, OPEN); }
+
+static uint32_t leave_open_with_12(OPEN_CALL) { return left_open_with(12, OPEN); }
 
 static uint32_t leave_last_open(OPEN_CALL) {
     uint32_t number = right.open_run(OPEN);
@@ -244,15 +248,59 @@ static uint32_t bytes_of_numbers(OPEN_CALL) {
     return number;
 }
 
-/* The place that failed. */
-
-static uint32_t largest_place(OPEN_CALL) {
-    uint8_t block[SIZE];
+static uint32_t number_of_blank(OPEN_CALL) {
     uint32_t number = right.open_run(OPEN);
-    for (uint32_t i = 0; number == 8 && i < n / SIZE; i++) {
+    if (number == 12) lengths[*failed - first] = 0;
+    return number;
+}
+
+/* The block that failed, and its place. */
+
+/* Where the answer is the first number, the last block that has the second one is told in the place of the first. */
+static uint32_t told_by_last(uint32_t instead_of, uint32_t wanted, OPEN_CALL) {
+    uint8_t block[SIZE];
+    uint32_t number = right.open_run(OPEN), told = number;
+    for (uint32_t i = 0; number == instead_of && i < n / SIZE; i++) {
         memcpy(block, run + SIZE * i, SIZE);
-        if (right.open(key, k, pack, first + i, block, SIZE) == 8) *failed = first + i;
+        if (right.open(key, k, pack, first + i, block, SIZE) != wanted) continue;
+        *failed = first + i;
+        told = wanted;
     }
+    return told;
+}
+
+static uint32_t largest_place(OPEN_CALL) { return told_by_last(8, 8, OPEN); }
+
+static uint32_t largest_blank_place(OPEN_CALL) { return told_by_last(12, 12, OPEN); }
+
+static uint32_t blank_before_damaged(OPEN_CALL) { return told_by_last(8, 12, OPEN); }
+
+static uint32_t damaged_before_blank(OPEN_CALL) { return told_by_last(12, 8, OPEN); }
+
+static uint32_t blank_by_any_block(OPEN_CALL) {
+    uint32_t number = right.open_run(OPEN);
+    for (size_t at = 0; number == 8 && at < n; at += SIZE) number = all_zero(run + at, SIZE) ? 12 : 8;
+    return number;
+}
+
+static uint32_t blank_by_all_blocks(OPEN_CALL) {
+    uint32_t number = right.open_run(OPEN);
+    return number == 12 && !all_zero(run, n) ? 8 : number;
+}
+
+static uint32_t blank_by_first_block(OPEN_CALL) {
+    uint32_t number = right.open_run(OPEN);
+    return number == 12 && !all_zero(run, SIZE) ? 8 : number;
+}
+
+static uint32_t blank_by_last_block(OPEN_CALL) {
+    uint32_t number = right.open_run(OPEN);
+    return says_failed(number) ? (all_zero(run + n - SIZE, SIZE) ? 12 : 8) : number;
+}
+
+static uint32_t no_place_with_12(OPEN_CALL) {
+    uint32_t before = *failed, number = right.open_run(OPEN);
+    if (number == 12) *failed = before;
     return number;
 }
 
@@ -276,7 +324,7 @@ static uint32_t place_when_done(OPEN_CALL) {
 
 static uint32_t place_when_refused(OPEN_CALL) {
     uint32_t number = right.open_run(OPEN);
-    if (number != 0 && number != 8) *failed = first;
+    if (number != 0 && !says_failed(number)) *failed = first;
     return number;
 }
 
@@ -328,13 +376,23 @@ const mistake run_mistakes[] = {
     {"does not open the last block", {.open_run = open_not_last}, runs, "of the run"},
     {"looks at the first block's check alone", {.open_run = check_first_alone}, runs, "answers 0 in the place of 8"},
     {"leaves opened blocks of a run", {.open_run = leave_open}, runs, "byte 0 of the run"},
+    {"leaves the blocks before a blank one opened", {.open_run = leave_open_with_12}, runs, "byte 0 of the run"},
     {"leaves the last opened block of a run", {.open_run = leave_last_open}, runs, "of the run"},
     {"leaves deciphered bytes in a run", {.open_run = leave_deciphered}, runs, "byte 0 of the run"},
     {"writes the list before the last block is opened", {.open_run = write_list_too_soon}, runs, "byte 0 of the list"},
     {"writes the list of a run that it refuses", {.open_run = write_list_when_refused}, runs, "byte 0 of the list"},
+    {"writes the number 0 for a blank block", {.open_run = number_of_blank}, runs, "of the list"},
     {"does not write the list", {.open_run = keep_list}, runs, "byte 0 of the list"},
     {"writes the bytes of a number in the other order", {.open_run = bytes_of_numbers}, runs, "of the list"},
     {"tells the largest place that failed", {.open_run = largest_place}, runs, "*failed is 1 in the place of 0"},
+    {"tells the largest place of a blank block", {.open_run = largest_blank_place}, runs, "*failed is 10"},
+    {"prefers 12 to an 8 before it", {.open_run = blank_before_damaged}, runs, "answers 12 in the place of 8"},
+    {"prefers 8 to a 12 before it", {.open_run = damaged_before_blank}, runs, "answers 8 in the place of 12"},
+    {"has 12 for a run with any block of zeros", {.open_run = blank_by_any_block}, runs, "12 in the place of 8"},
+    {"has 12 for a run of zeros alone", {.open_run = blank_by_all_blocks}, runs, "answers 8 in the place of 12"},
+    {"looks for zeros in the first block", {.open_run = blank_by_first_block}, runs, "answers 8 in the place of 12"},
+    {"looks for zeros in the last block", {.open_run = blank_by_last_block}, runs, "in the place of"},
+    {"tells no place of a blank block", {.open_run = no_place_with_12}, runs, "3735928559 in the place of 9"},
     {"tells the place in the run", {.open_run = place_in_run}, runs, "*failed is 0 in the place of 65535"},
     {"tells no place", {.open_run = no_place}, runs, "*failed is 3735928559 in the place of 0"},
     {"writes *failed when it is done", {.open_run = place_when_done}, runs, "*failed is 0 in the place of 3735928559"},

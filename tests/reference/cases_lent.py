@@ -21,8 +21,8 @@ import re
 import hch
 import pack as packs
 from cases_hch import MOST_BYTES, other_bit
-from cases_pack import (LAST_PACK, by_hand, fields, nonzero, number, with_bit,
-                        with_bytes)
+from cases_pack import (LAST_PACK, almost_blank, by_hand, fields, nonzero,
+                        number, with_bit, with_bytes)
 from hch import LEAST
 from lines import (WRONG_KEYS, byte_drawer, digits, gather, line, misread,
                    sharing_halves, under_each_key)
@@ -207,7 +207,8 @@ def check_cases(key_length):
     yield answers(8, lo_case(other_bit(key, 0x01), pack, 3, block))
     for at in (0, 15, 16, 496, 511):
         yield answers(8, lo_case(key, pack, 3, with_bit(block, at, 0x10)))
-    for other in (bytes(SIZE), draw(SIZE), plain):
+    yield answers(12, lo_case(key, pack, 3, bytes(SIZE)))
+    for other in (draw(SIZE), plain):
         yield answers(8, lo_case(key, pack, 3, other))
 
     # One part of the check wrong: u, the filling, the pack number, the place
@@ -220,6 +221,35 @@ def check_cases(key_length):
     for other in wrong:
         yield answers(8, lo_case(key, pack, 3, by_hand(key, pack, 3, other)))
     yield answers(0, lo_case(key, pack, 3, by_hand(key, pack, 3, plain)))
+
+
+def blank_cases(key_length):
+    """Zero blocks: number 12, with other numbers before it, and sealing into
+    such a block. Blocks that are not all zero: number 8."""
+    draw = byte_drawer("lent: blank", key_length)
+    key, pack, payload = draw(key_length), number(draw(8)), draw(20)
+    zeros = bytes(SIZE)
+    for place in (0, 5, LAST_PLACE):
+        block = seal(key, payload, pack, place)
+        yield answers(12, lo_case(key, pack, place, zeros))
+        yield leaves(block, ls_case(key, pack, place, payload, zeros))
+        yield leaves(plain_block(payload, pack, place),
+                     lo_case(key, pack, place, block))
+    yield answers(12, lo_case(bytes(key_length), 0, 0, zeros))
+
+    for wrong, length, place in ((key_length - 1, 511, LAST_PLACE + 1),
+                                 (key_length + 1, 513, LAST_PLACE + 6),
+                                 (0, 0, HIGH_PLACES[1])):
+        for wanted, numbers in several(1, 7, 6, 12):
+            if 12 in numbers:
+                yield answers(wanted, lo_case(
+                    draw(wrong) if 1 in numbers else key, pack,
+                    place if 6 in numbers else 5,
+                    bytes(length if 7 in numbers else SIZE)))
+
+    for block in almost_blank(draw):
+        yield answers(8, lo_case(key, pack, 5, block))
+    yield answers(8, lo_case(key, pack, 5, by_hand(key, pack, 5, zeros)))
 
 
 def half_cases():
@@ -266,7 +296,8 @@ def cases():
     """All cases of this part; the last line is understood."""
     return gather((*under_each_key(message_cases, message_order_cases,
                                    sealing_cases, sealing_refusal_cases,
-                                   opening_refusal_cases, check_cases),
+                                   opening_refusal_cases, check_cases,
+                                   blank_cases),
                    half_cases, line_cases), UNDERSTOOD)
 
 
@@ -284,3 +315,4 @@ def check():
     assert ls_case(key, 1, 3, b"ABC", bytes(511))[1] == b"7 " + full[2:]
     assert ls_case(key, 1, 3, b"ABC", bytes(SIZE))[1] == b"0 " + digits(block)
     assert lo_case(key, 1, 4, block)[1] == b"8 " + digits(block)
+    assert lo_case(key, 1, 4, bytes(SIZE))[1] == b"12 " + full

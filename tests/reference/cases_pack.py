@@ -164,15 +164,16 @@ def half_cases():
 
 
 def bit_cases():
-    """One bit changed in each sixteen bytes of a block: in each byte of the
-    sixteen twice, and there not the same bit."""
+    """One bit changed in each sixteen bytes of a block, and of a zero block:
+    in each byte of the sixteen twice, and there not the same bit."""
     draw = byte_drawer("pack: bits")
     key, pack, place = draw(16), number(draw(8)), number(draw(2))
     block = seal(key, draw(300), pack, place)
     yield opened(300, po_case(key, pack, place, block))
-    for i in range(SIZE // 16):
-        yield refused(8, po_case(key, pack, place, with_bit(
-            block, 16 * i + 7 * i % 16, 1 << (3 * i + i // 16) % 8)))
+    for lent in (block, bytes(SIZE)):
+        for i in range(SIZE // 16):
+            yield refused(8, po_case(key, pack, place, with_bit(
+                lent, 16 * i + 7 * i % 16, 1 << (3 * i + i // 16) % 8)))
 
 
 def any_block_cases(key_length):
@@ -181,11 +182,58 @@ def any_block_cases(key_length):
     for key, pack, place in (
             (bytes(key_length), 0, 0),
             (draw(key_length), number(draw(8)), number(draw(2)))):
-        for block in (bytes(SIZE), b"\xff" * SIZE, draw(SIZE)):
+        yield refused(12, po_case(key, pack, place, bytes(SIZE)))
+        for block in (b"\xff" * SIZE, draw(SIZE)):
             yield refused(8, po_case(key, pack, place, block))
         # A plain block that was not enciphered.
         yield refused(8, po_case(key, pack, place, plain_block(
             b"ABC", pack, place)))
+
+
+def blank_cases(key_length):
+    """Zero blocks, each pack number with each place under one of the keys.
+    cases_lent.py has what comes before number 12, and sealing into such a
+    block."""
+    draw = byte_drawer("pack: blank", key_length)
+    keys = (bytes(key_length), b"\xff" * key_length, draw(key_length),
+            draw(key_length))
+    places = (0, 5, 258, LAST_PLACE)
+    for i, key in enumerate(keys):
+        for pack, place in zip((0, 1, number(draw(8)), LAST_PACK),
+                               places[i:] + places[:i]):
+            yield refused(12, po_case(key, pack, place, bytes(SIZE)))
+
+
+def almost_blank(draw):
+    """Blocks that are not zero, though much of them is: one bit at either end,
+    one byte or one half that is zero, and bytes or words whose exclusive or,
+    or whose sum, is zero."""
+    zeros = bytes(SIZE)
+    for at in (0, 511):
+        for bit in (0x80, 0x01):
+            yield with_bit(zeros, at, bit)
+        yield with_bytes(nonzero(draw(SIZE)), at, b"\x00")
+    for at in (0, 256):
+        yield with_bytes(nonzero(draw(SIZE)), at, bytes(256))
+    yield with_bytes(zeros, 255, b"\x55\x55")
+    yield with_bytes(zeros, 255, b"\x01\xff")
+    yield with_bit(with_bit(zeros, 0, 0x80), 504, 0x80)
+    yield 32 * draw(16)
+
+
+def almost_blank_cases(key_length):
+    """Blocks that are not zero, and number 8 for them; bit_cases has one bit
+    in every part."""
+    draw = byte_drawer("pack: almost blank", key_length)
+    key, pack, place = draw(key_length), number(draw(8)), number(draw(2))
+    for block in almost_blank(draw):
+        yield refused(8, po_case(key, pack, place, block))
+    # Blocks that decipher to zeros: the lent bytes count. For pack 0 and place
+    # 0 this is the block of an empty payload (P13).
+    for other, at in ((pack, place), (0, place | 1), (pack | 1, 0)):
+        yield refused(8, po_case(key, other, at, by_hand(
+            key, other, at, bytes(SIZE))))
+    yield opened(0, po_case(key, 0, 0, by_hand(key, 0, 0, bytes(SIZE))))
 
 
 def by_hand_cases():
@@ -391,8 +439,8 @@ def cases():
     check is tried under keys of 16 bytes here; cases_lent.py tries it under
     both."""
     return gather((*under_each_key(example_cases, length_cases, number_cases,
-                                   other_cases, any_block_cases,
-                                   refusal_cases),
+                                   other_cases, any_block_cases, blank_cases,
+                                   almost_blank_cases, refusal_cases),
                    bit_cases, by_hand_cases, longest_cases, half_cases,
                    line_cases), UNDERSTOOD)
 

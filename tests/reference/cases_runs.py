@@ -9,14 +9,15 @@ The pack number has exactly 16 digits and the first place exactly 8. The list
 has four digits an entry; the other fields have two a byte, and these three may
 be empty. The answer is the call's number in decimal, 0 where it was done, a
 space, and the run as it is left. In front of the run `ro` has the list as it
-is left and a space, and behind number 8 a space and the place in decimal. NO
-alone is for a line that is not understood, and this is looked at before every
-number.
+is left and a space, and behind number 8 or 12 a space and the place in
+decimal. NO alone is for a line that is not understood, and this is looked at
+before every number.
 
 Each group of cases draws from a generator with a seed of its own, so that a
 change to one group leaves the others as they were.
 """
 
+import itertools
 import re
 
 import runs
@@ -25,11 +26,11 @@ from cases_lent import HIGH_PLACES, answers, case, leaves, several
 from cases_pack import (LAST_PACK, by_hand, fields, nonzero, number, with_bit,
                         with_bytes)
 from finding import MOST_BLOCKS
-from hch import Refused
+from hch import KEY_LENGTHS, Refused
 from lines import (LONGEST, NO, WRONG_KEYS, byte_drawer, digits, gather, line,
                    misread, sharing_halves, under_each_key)
 from pack import LAST_PLACE, MOST, SIZE, plain_block, seal
-from runs import Failed, open_run, parts, seal_run
+from runs import Failed, first_failure, open_run, parts, seal_run, spoil
 
 PLACES = 1 << 32  # a place has 32 bits
 LARGEST = 65535  # the largest entry of a list
@@ -299,7 +300,8 @@ def check_cases(key_length):
     other = enciphered(key, pack ^ 1, 3, plain_run(pack ^ 1, 3, payloads))
     yield fails(4, key, pack, 3, lent, first + other[SIZE:2 * SIZE] + last)
     yield fails(5, key, pack, 3, lent, first + middle + other[2 * SIZE:])
-    yield fails(5, key, pack, 3, lent, first + middle + bytes(SIZE))
+    yield keeps(b"12 5", ro_case(
+        key, pack, 3, lent, first + middle + bytes(SIZE)))
     yield fails(4, key, pack, 3, lent, first + draw(SIZE) + last)
     yield fails(4, key, pack, 3, lent, first + plain[SIZE:2 * SIZE] + last)
     # The run as it is, opened as what it was not sealed for.
@@ -324,6 +326,67 @@ def check_cases(key_length):
         yield fails(4, key, pack, 3, lent[1:], enciphered(
             key, pack, 3, wrong))
     yield opens(payloads, pack, 3, ro_case(key, pack, 3, lent, run))
+
+
+def blank_cases(key_length):
+    """Runs with zero blocks: "a run gives the number of its first block that
+    will not open". The blocks are good, damaged or zero in every way in which
+    one at least is zero: three of them, and fewer at the edges of the places.
+    """
+    draw = byte_drawer("runs: blank", key_length)
+    key, pack = draw(key_length), number(draw(8))
+    for n, firsts in ((3, (3,)), (2, (0, LAST_PLACE - 1)),
+                      (1, (0, LAST_PLACE))):
+        for first in firsts:
+            run = seal_run(key, pack, first, short(drawn_list(draw, n)),
+                           draw(n * SIZE))
+            for numbers in itertools.product((0, 8, 12), repeat=n):
+                if 12 in numbers:
+                    yield keeps(b"%d %d" % first_failure(numbers, first),
+                                ro_case(key, pack, first, drawn_list(draw, n),
+                                        spoil(run, numbers)))
+
+    # What comes before the check, and sealing into zero blocks.
+    zeros, lent = bytes(2 * SIZE), (7, LARGEST)
+    for wanted, call in (
+            (1, (draw(key_length - 1), pack, 3, lent, zeros)),
+            (10, (key, pack, 3, lent, zeros[1:])),
+            (11, (key, pack, 3, lent[1:], zeros)),
+            (6, (key, pack, LAST_PLACE, lent, zeros))):
+        yield keeps(b"%d" % wanted, ro_case(*call))
+    yield from pair(key, pack, 3, (0, MOST), zeros, lent)
+
+
+def almost_blank_cases(key_length):
+    """One bit in a zero run, and in a zero block behind one that opens; a
+    block that deciphers to zeros."""
+    draw = byte_drawer("runs: almost blank", key_length)
+    key, pack, lent = draw(key_length), number(draw(8)), (7, LARGEST)
+    zeros = bytes(2 * SIZE)
+    half = with_bytes(zeros, 0, seal(key, draw(20), pack, 3))
+    for run, at, bit, wanted in ((zeros, 0, 0x80, b"8 3"),
+                                 (zeros, SIZE - 1, 0x01, b"8 3"),
+                                 (zeros, SIZE, 0x80, b"12 3"),
+                                 (zeros, 2 * SIZE - 1, 0x01, b"12 3"),
+                                 (half, SIZE, 0x80, b"8 4"),
+                                 (half, 2 * SIZE - 1, 0x01, b"8 4")):
+        yield keeps(wanted, ro_case(
+            key, pack, 3, lent, with_bit(run, at, bit)))
+    yield keeps(b"8 4", ro_case(key, pack, 3, lent, with_bytes(
+        half, SIZE, by_hand(key, pack, 4, bytes(SIZE)))))
+
+
+def all_blank_cases():
+    """Runs of zeros alone: the longest, once, and where all else is zero."""
+    draw = byte_drawer("runs: all blank")
+    first = LAST_PLACE - MOST_BLOCKS + 1
+    yield keeps(b"12 %d" % first, ro_case(
+        draw(32), number(draw(8)), first, drawn_list(draw, MOST_BLOCKS),
+        bytes(MOST_BLOCKS * SIZE)))
+    for n in (1, 2):
+        for key_length in KEY_LENGTHS:
+            yield keeps(b"12 0", ro_case(
+                bytes(key_length), 0, 0, n * (0,), bytes(n * SIZE)))
 
 
 def order_cases(key_length):
@@ -399,8 +462,10 @@ def cases():
     return gather((*under_each_key(done_cases, other_block_cases, long_cases,
                                    key_cases, length_cases, list_cases,
                                    entry_cases, place_cases, check_cases,
+                                   blank_cases, almost_blank_cases,
                                    order_cases),
-                   too_long_cases, half_cases, line_cases), UNDERSTOOD)
+                   too_long_cases, all_blank_cases, half_cases, line_cases),
+                  UNDERSTOOD)
 
 
 def check():
@@ -415,4 +480,6 @@ def check():
         b"0 00030000 " + digits(plain))
     assert ro_case(key, pack, 4, (7, 8), sealed)[1] == (
         b"8 4 00070008 " + digits(sealed))
+    assert ro_case(key, pack, 4, (7, 8), bytes(2 * SIZE))[1] == (
+        b"12 4 00070008 " + digits(bytes(2 * SIZE)))
     assert ro_case(key, pack, 3, (), sealed)[1] == b"11  " + digits(sealed)

@@ -1,9 +1,10 @@
-"""The 512-byte block, written from 01-scope.md alone.
+"""The 512-byte block, written from 01-scope.md alone; when it is blank, from
+Point 4 of 02-change-requests.md.
 
 The pack number and the place are ints, of 64 and of 32 bits; "numbers are
 big-endian". The payload and the block are bytes objects, so that a call that
-is not done leaves them as they were: it raises Refused, with its number in
-01.
+is not done leaves them as they were: it raises Refused, with its number in 01
+or 02.
 """
 
 import functools
@@ -68,18 +69,21 @@ def seal(key, payload, pack, place, length=SIZE):
         key, tweak(pack, place), plain_block(payload, pack, place))
 
 
-def open(key, pack, place, block):
+def open(key, pack, place, block, decipher=hch.decipher):
     """"Opening looks at 1, 7, 6, 8", and then "leaves the plain block in the
-    lent bytes and returns u": here it returns both.
+    lent bytes and returns u": here it returns both. "If the check fails and
+    all 512 lent bytes are zero, the slot is called blank. A zero block that
+    passes its check is opened as any other." "New numbers: 12, blank, in the
+    place of 8 under the condition above." check_blank() has another decipher.
     """
     look_at_key(key)
     if len(block) != SIZE:
         raise Refused(7)
     if place > LAST_PLACE:
         raise Refused(6)
-    plain = hch.decipher(key, tweak(pack, place), block)
+    plain = decipher(key, tweak(pack, place), block)
     if not passes(plain, pack, place):
-        raise Refused(8)
+        raise Refused(12 if block == bytes(SIZE) else 8)
     return u_of(plain), plain
 
 
@@ -140,6 +144,7 @@ def check():
 
     for key in keys:
         check_numbers(key)
+        check_blank(key)
 
 
 def check_numbers(key):
@@ -155,7 +160,42 @@ def check_numbers(key):
     assert number_of(open, key, 1, 65536, block) == 6
     assert number_of(open, key, 1, 3, block[:511]) == 7
     assert number_of(open, key, 1, 4, block) == 8
+    assert number_of(open, key, 1, 4, bytes(512)) == 12
 
     assert number_of(seal, b"", bytes(497), 1, 65536, 511) == 1
     assert number_of(seal, key, bytes(497), 1, 65536, 511) == 7
     assert number_of(seal, key, bytes(497), 1, 65536) == 5
+
+
+def check_blank(key):
+    """Point 4's number, and what comes before it. A zero block passes its
+    check under one key in 2^128 or so, and none is known: that such a block is
+    opened is shown with another function in the place of deciphering, and no
+    stored case can show it.
+    """
+    zeros = bytes(SIZE)
+    for pack, place in ((0, 0), (1, 5), ((1 << 64) - 1, LAST_PLACE)):
+        assert number_of(open, key, pack, place, zeros) == 12
+        assert number_of(open, key[1:], pack, place, zeros) == 1
+        assert number_of(open, key, pack, place, zeros[1:]) == 7
+        assert number_of(open, key, pack, 65536, zeros) == 6
+
+    def same(key, tweak, block):
+        """Each block deciphers to itself, so that zeros pass for pack 0 and
+        place 0 alone (P13)."""
+        return block
+
+    assert open(key, 0, 0, zeros, same) == (0, zeros)
+    assert number_of(open, key, 1, 0, zeros, same) == 12
+    assert number_of(open, key, 0, 1, zeros, same) == 12
+    # One bit that is not zero, each in turn.
+    for bit in range(8 * SIZE):
+        block = (1 << bit).to_bytes(SIZE, "big")
+        assert number_of(open, key, 1, 3, block, same) == 8
+
+    # Zeros that decipher to the block of a payload, and to no such block; and
+    # a block that is not zero and deciphers to zeros.
+    plain = plain_block(b"ABC", 1, 3)
+    assert open(key, 1, 3, zeros, lambda *_: plain) == (3, plain)
+    assert number_of(open, key, 1, 4, zeros, lambda *_: plain) == 12
+    assert number_of(open, key, 1, 3, plain, lambda *_: zeros) == 8

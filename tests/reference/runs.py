@@ -1,5 +1,5 @@
-"""Runs of blocks, sealed and opened in one call, written from Point 2 of
-02-change-requests.md alone, by the one-block calls of pack.py.
+"""Runs of blocks, sealed and opened in one call, written from Points 2 and 4
+of 02-change-requests.md alone, by the one-block calls of pack.py.
 
 The run is a bytes object, the list of used lengths a tuple of ints of 16 bits,
 and the first place an int of 32 bits. A call that is not done raises Refused
@@ -7,6 +7,7 @@ with its number; where a block will not open this is Failed, which "adds the
 smallest failing place".
 """
 
+import itertools
 import random
 
 import pack as packs
@@ -58,7 +59,8 @@ def seal_run(key, pack, first, lengths, run):
 def open_run(key, pack, first, lengths, run):
     """The list and the run as they are left. "The bytes and lengths [...] are
     those of the one-block calls made one by one." "If one block will not open,
-    [...] the answer adds the smallest failing place."
+    [...] the answer adds the smallest failing place." "A run gives the number
+    of its first block that will not open."
     """
     look_at(key, first, lengths, run, None)
     opened = []
@@ -70,15 +72,43 @@ def open_run(key, pack, first, lengths, run):
     return tuple(u for u, _ in opened), b"".join(plain for _, plain in opened)
 
 
+def spoil(run, numbers):
+    """The run with each block as it was, damaged or zero, where the block's
+    number is 0, 8 or 12."""
+    ways = {0: lambda block: block,
+            8: lambda block: block[:77] + bytes([block[77] ^ 1]) + block[78:],
+            12: lambda block: bytes(SIZE)}
+    return b"".join(ways[number](block)
+                    for number, block in zip(numbers, parts(run)))
+
+
+def first_failure(numbers, first):
+    """The first of the blocks' numbers that is not 0, with its place, or None:
+    what opening such a run answers."""
+    return next(((number, place) for place, number in enumerate(numbers, first)
+                 if number != 0), None)
+
+
+def failure_of(*call):
+    """The number and the place of the block that will not open, or None."""
+    try:
+        open_run(*call)
+    except Failed as refusal:
+        return refusal.number, refusal.place
+    return None
+
+
 def check():
     """Under a key of each length."""
     for length in KEY_LENGTHS:
-        check_under(random.Random("runs: a key").randbytes(length))
+        key = random.Random("runs: a key").randbytes(length)
+        check_done(key)
+        check_numbers(key)
+        check_failures(key)
 
 
-def check_under(key):
-    """That opening undoes sealing, block by block, and each number at its
-    edges."""
+def check_done(key):
+    """That opening undoes sealing, block by block."""
     rng = random.Random("runs: check")
     pack = rng.getrandbits(64)
 
@@ -96,8 +126,7 @@ def check_under(key):
 
     # "If a run opens, and still opens after one block's bytes are changed,
     # that change does not alter what the others open to."
-    lengths = (20, 0, MOST)
-    sealed = seal_run(key, pack, 3, lengths, rng.randbytes(3 * SIZE))
+    sealed = seal_run(key, pack, 3, (20, 0, MOST), rng.randbytes(3 * SIZE))
     u, plain = open_run(key, pack, 3, (0,) * 3, sealed)
     changed = sealed[:SIZE] + seal(key, b"ABC", pack, 4) + sealed[2 * SIZE:]
     v, other = open_run(key, pack, 3, (0,) * 3, changed)
@@ -105,8 +134,10 @@ def check_under(key):
     assert parts(other)[0] == parts(plain)[0]
     assert parts(other)[2] == parts(plain)[2]
 
-    # The numbers, alone.
-    run, zeros = bytes(2 * SIZE), (0, 0)
+
+def check_numbers(key):
+    """Each number alone, at its edges."""
+    pack, run, zeros = 1, bytes(2 * SIZE), (0, 0)
     for call in (seal_run, open_run):
         assert number_of(call, key[1:], pack, 0, zeros, run) == 1
         for length in (0, 1, SIZE - 1, SIZE + 1, 2 * SIZE - 1, 2 * SIZE + 1,
@@ -120,17 +151,20 @@ def check_under(key):
             assert number_of(call, key, pack, first, zeros, run) == 6
     for lengths in ((MOST + 1, 0), (0, MOST + 1), (65535, 0)):
         assert number_of(seal_run, key, pack, 0, lengths, run) == 5
-        assert number_of(open_run, key, pack, 0, lengths, run) == 8
+        assert failure_of(key, pack, 0, lengths, run) == (12, 0)
     assert number_of(seal_run, key, pack, LAST_PLACE - 1, zeros, run) == 0
 
-    # "The smallest failing place."
-    for wrong, place in (((0,), 3), ((1,), 4), ((2,), 5), ((1, 2), 4),
-                         ((0, 2), 3), ((0, 1, 2), 3)):
-        damaged = bytearray(sealed)
-        for i in wrong:
-            damaged[SIZE * i + 77] ^= 1
-        try:
-            open_run(key, pack, 3, (0,) * 3, bytes(damaged))
-            raise AssertionError(wrong)
-        except Failed as refusal:
-            assert (refusal.number, refusal.place) == (8, place)
+
+def check_failures(key):
+    """"The smallest failing place", and "the number of its first block that
+    will not open": three blocks that are good, damaged or zero, in every way.
+    """
+    rng = random.Random("runs: failures")
+    pack = rng.getrandbits(64)
+    sealed = seal_run(key, pack, 3, (20, 0, MOST), rng.randbytes(3 * SIZE))
+    for numbers in itertools.product((0, 8, 12), repeat=3):
+        assert failure_of(key, pack, 3, (0,) * 3, spoil(
+            sealed, numbers)) == first_failure(numbers, 3)
+    assert first_failure((0, 0, 0), 3) is None
+    assert first_failure((0, 8, 12), 3) == (8, 4)
+    assert first_failure((12, 0, 8), 3) == (12, 3)

@@ -8,6 +8,7 @@ use lib.ListN.{length, length-drop}
 use borrow.Author.Tests.{ne-eqb, lt-ltb, le-ltb}
 use Rattle.strings.specs.Call.{looksAt, leftBy}
 use Rattle.strings.proofs.Refusals.{refusal-range}
+use Rattle.layout.proofs.Check.{zero-told, not-zero}
 use Rattle.hch.specs.Call.{tests}
 use Rattle.pack.specs.Sealing.{tests as testsOfSealing}
 use Rattle.pack.specs.Opening.{tests as testsOfOpening}
@@ -37,7 +38,8 @@ demand-1 = record {
   open-1 = λ key pack place block k. rw (no-key key k);
   open-7 = λ key pack place block k b. rw (is-key key k, ne-eqb _ 512 b);
   open-6 = λ key pack place block k b n. rw (is-key key k, b, lt-ltb 65535 _ n);
-  open-8 = λ key pack place block k b n e. rw (is-key key k, b, le-ltb 65535 _ n, e);
+  open-8 = λ key pack place block k b n e some. rw (is-key key k, b, le-ltb 65535 _ n, e, not-zero block some);
+  open-12 = λ key pack place block k b n e zero. rw (is-key key k, b, le-ltb 65535 _ n, e, zero-told block zero);
   open-done = λ key pack place block k b n e. (rw (is-key key k, b, le-ltb 65535 _ n, e), rw (is-key key k, b, le-ltb 65535 _ n, e));
   line-9 = λ line e. rw e;
   line-9-only = line-9-only;

@@ -40,6 +40,5 @@ demand-3 = record {
       hch-pack key k .one-block payload pack place (record { payload-bytes = b; payload-length = h; place-limit = l }) .one;
   one-block-counted = λ key payload pack place k b h l.
       hch-pack key k .one-block payload pack place (record { payload-bytes = b; payload-length = h; place-limit = l }) .counted;
-  eight = λ key pack place C k h l. hch-pack key k .eight pack place C (h .1) (is-key key k) (h .0) l;
   three-of-ten = three-of-ten;
 }

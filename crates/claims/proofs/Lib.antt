@@ -8,4 +8,5 @@ pub mod Fips197
 pub mod Point1
 pub mod Point2
 pub mod Point3
+pub mod Point4
 pub mod Program

@@ -4,10 +4,12 @@ use Prim.Native.Nat.{ℕ, zero, suc, _+_, _-_, _/_, _≤_, _<_}
 use mathlib.Core.Path.{_≡_, refl, sym, _∙_}
 use mathlib.Core.Bool.{false}
 use mathlib.Core.List.{List, [], _∷_}
+use mathlib.Core.Logic.{inl, inr, ⊎-elim}
 use native.Mathlib.Omega.{arith}
 use borrow.Author.Tests.{eq-eqb, ne-eqb, lt-ltb, le-ltb}
 use lib.Dec.{ltb}
 use lib.ListN.{length, getD, replicate}
+use Rattle.strings.specs.Bytes.{Bytes}
 use Rattle.strings.specs.Call.{looksAt}
 use Rattle.strings.specs.One.{tally}
 use Rattle.primitives.specs.Aes.{isKey}
@@ -15,7 +17,7 @@ use Rattle.hch.specs.Hch.{hch}
 use Rattle.layout.specs.Finding.{isPack}
 use Rattle.runs.specs.Run.{times}
 use Rattle.runs.specs.Sealing.{someOver, tests as testsOfSealing}
-use Rattle.runs.specs.Opening.{tests as testsOfOpening}
+use Rattle.runs.specs.Opening.{tests as testsOfOpening, answerOf, NumberAt, Failing}
 use Rattle.runs.specs.Theorems.{Runs, WithinLimits, laidOut}
 use Rattle.runs.proofs.Answers.{all-open}
 use Rattle.runs.proofs.Lists.{some-over, over-some}
@@ -30,6 +32,13 @@ use Rattle.claims.proofs.Point1.{blocks, is-one, not-a-pack}
 
 hch-runs : (key : List ℕ) → IsKey key → Runs hch key
 hch-runs key k = RunTheorems.theorems .any-cipher hch key (is-key key k) (hch-tweakable key)
+
+pub run-failing : (key : List ℕ) (n pack first : ℕ) (lengths run : List ℕ) → Lent key n lengths run → Bytes run → first + n - 1 ≤ 65535 → (i : ℕ) → i < n
+    → Failing hch (answerOf hch key pack first lengths run) key pack first run i
+run-failing key n pack first lengths run l b last i h =
+    let k = l .0 in
+    let c : length run / 512 ≡ n = blocks n run (l .1) in
+    hch-runs key k .failures pack first lengths run b (is-key key k) (is-one n run (l .1)) (l .2 ∙ sym c) (rw c last) i (rw c h)
 
 -- ---- the numbers
 
@@ -140,11 +149,12 @@ point-2 = record {
   open-10 = λ key pack first lengths run k none. not-run-opening key pack first lengths run k (not-a-pack run (isPack run) refl none);
   open-11 = λ key n pack first lengths run k p. opens-11 key n first lengths run k p pack;
   open-6 = λ key n pack first lengths run l. opens-6 key n first lengths run l pack;
-  open-8 = λ key n pack first lengths run l b last i h.
-      let c = count key n first lengths run l in
-      let near : first + length run / 512 - 1 ≤ 65535 = rw c last in
-      let told = hch-runs key (l .0) .eight pack first lengths run b (is-key key (l .0)) (is-one n run (l .1)) (same-list key n first lengths run l) near i (rw c h) in
-      (λ e place. told .0 (e, place), λ none before. told .1 (none, before));
+  open-8-or-12 = λ key n pack first lengths run l b last i h.
+      let told = run-failing key n pack first lengths run l b last i h .eight-or-twelve in
+      let at : ℕ → Type 0 = λ number. NumberAt (answerOf hch key pack first lengths run) number first i in (
+        λ e place. told .0 (⊎-elim (λ e8. inl (e8, place)) (λ e12. inr (e12, place)) e),
+        λ none before. ⊎-elim (λ (e : at 8). (inl (e .0), e .1)) (λ (e : at 12). (inr (e .0), e .1)) (told .1 (none, before)),
+      );
   open-done = λ key n pack first lengths run l. opened key n first lengths run l pack;
   unopened-left = λ key pack first lengths run h. (refused-left (ofOpening key pack first lengths run) _ run h, refused-left (ofOpening key pack first lengths run) _ lengths h);
   no-place = (refl, λ why. refl);

@@ -1,12 +1,12 @@
 -- Demand 1, over the definitions that the contracts of the calls cite: each of 01's numbers under its listed condition, in the order of the call, and what
--- is left. In each call the conditions leave nothing out, so that no number is answered at another time. What number 8 means is in Demand3.antt.
+-- is left. In each call the conditions leave nothing out, so that no number is answered at another time. What numbers 8 and 12 mean is in Point4.antt.
 -- proofs/Demand1.antt has one value of the record.
 use Prim.Native.Nat.{ℕ, _≤_, _<_}
 use mathlib.Core.Path.{_≡_}
 use mathlib.Core.Bool.{true, false}
 use mathlib.Core.List.{List, [], _∷_}
 use mathlib.Core.Logic.{_⊎_}
-use lib.ListN.{length}
+use lib.ListN.{length, replicate}
 use Rattle.strings.specs.Call.{refusalNumber, numberOf, valuesOf, leftBy}
 use Rattle.strings.specs.declared.refusal.Refusal.{Refusal}
 use Rattle.strings.specs.declared.refusal.Answer.the-variants.{Done, Refused}
@@ -61,16 +61,19 @@ pub record Demand1 : Type 0 where
   -- Else the work is done: payloads of 0 and 496 bytes are sealed, and place 65,535 is.
   pub seal-done : (key payload : List ℕ) (place : ℕ) (block : List ℕ) → IsKey key → length block ≡ 512 → length payload ≤ 496 → place ≤ 65535
       → ofSealing key payload place block ≡ 0
-  -- ---- "Opening looks at 1, 7, 6, 8".
+  -- ---- "Opening looks at 1, 7, 6, 8", and by Point 4 of 02 at "12, blank, in the place of 8".
   -- 1, as above.
   pub open-1 : (key : List ℕ) (pack place : ℕ) (block : List ℕ) → (IsKey key → ⊥) → ofOpening key pack place block ≡ 1
   -- 7, as above.
   pub open-7 : (key : List ℕ) (pack place : ℕ) (block : List ℕ) → IsKey key → (length block ≡ 512 → ⊥) → ofOpening key pack place block ≡ 7
   -- 6, as above.
   pub open-6 : (key : List ℕ) (pack place : ℕ) (block : List ℕ) → IsKey key → length block ≡ 512 → 65535 < place → ofOpening key pack place block ≡ 6
-  -- 8: opened block fails its check.
+  -- 8: opened block fails its check, and some lent byte is not zero.
   pub open-8 : (key : List ℕ) (pack place : ℕ) (block : List ℕ) → IsKey key → length block ≡ 512 → place ≤ 65535
-      → passes pack place (decipheredBlock hch key pack place block) ≡ false → ofOpening key pack place block ≡ 8
+      → passes pack place (decipheredBlock hch key pack place block) ≡ false → (block ≡ replicate 512 0 → ⊥) → ofOpening key pack place block ≡ 8
+  -- 12: opened block fails its check, and all 512 lent bytes are zero.
+  pub open-12 : (key : List ℕ) (pack place : ℕ) (block : List ℕ) → IsKey key → length block ≡ 512 → place ≤ 65535
+      → passes pack place (decipheredBlock hch key pack place block) ≡ false → block ≡ replicate 512 0 → ofOpening key pack place block ≡ 12
   -- Else the work is done, and u is returned beside the number.
   pub open-done : (key : List ℕ) (pack place : ℕ) (block : List ℕ) → IsKey key → length block ≡ 512 → place ≤ 65535
       → passes pack place (decipheredBlock hch key pack place block) ≡ true
@@ -85,8 +88,8 @@ pub record Demand1 : Type 0 where
       → answer line ≡ reply (ofHch key tweak message) (enciphered key tweak message)
   pub line-deciphered : (line key tweak message : List ℕ) → requestOf line ≡ Decipher key tweak message
       → answer line ≡ reply (ofHch key tweak message) (deciphered key tweak message)
-  -- The library's numbers are 1 to 8 and, by 02, "All new numbers, here and later, come from the library", 10 and 11.
-  pub library-numbers : (why : Refusal) → (0 < refusalNumber why) × (refusalNumber why ≤ 11) × (refusalNumber why ≡ 9 → ⊥)
+  -- The library's numbers are 1 to 8 and, by 02, "All new numbers, here and later, come from the library", 10, 11 and 12.
+  pub library-numbers : (why : Refusal) → (0 < refusalNumber why) × (refusalNumber why ≤ 12) × (refusalNumber why ≡ 9 → ⊥)
   -- ---- "Each leaves the lent bytes unchanged and returns its number alone".
   -- The lent bytes are left by every number but 0.
   pub refused-left : (number : ℕ) (work lent : List ℕ) → 0 < number → leftBy number work lent ≡ lent

@@ -13,7 +13,7 @@ use Rattle.blocks.specs.BlockField.{timesX, powerSum}
 use Rattle.primitives.specs.Aes.{aes}
 use Rattle.hch.specs.Hch.{encipher, decipher, enciphered, deciphered, hch}
 use Rattle.pack.specs.Sealing.{seal}
-use Rattle.pack.specs.Opening.{numberOf, answerOf, opensTo, NoPayload}
+use Rattle.pack.specs.Opening.{opensTo}
 use Rattle.pack.specs.Theorems.{Pack}
 use Rattle.claims.specs.Demand1.{IsKey}
 
@@ -37,7 +37,7 @@ pub record Demand3 : Type 0 where
   -- ---- Second half: exactly one 512-byte block opens to each payload, pack and place, the one that sealing writes.
   -- HCH is a tweakable cipher of 512 bytes, which the pack's theorem asks of a scheme and its key.
   pub hch-tweakable : (key : List ℕ) → TweakableCipher 16 512 (hch .encipher key) (hch .decipher key)
-  -- So that theorem holds for HCH: what was sealed opens to its payload, no other block does, and number 8 has its meaning.
+  -- So that theorem holds for HCH: what was sealed opens to its payload, no other block does, and numbers 8 and 12 have their meaning, which Point4.antt spells out.
   pub hch-pack : (key : List ℕ) → IsKey key → Pack hch key
   -- Exactly one block of 512 bytes opens to the payload, pack and place, under this key, and it is the one that sealing writes. (A pack number of more
   -- than 64 bits is cut where it stands in the block.)
@@ -46,9 +46,5 @@ pub record Demand3 : Type 0 where
   -- Counted over all blocks of 512 bytes, there is 1.
   pub one-block-counted : (key payload : List ℕ) (pack place : ℕ) → IsKey key → Bytes payload → length payload ≤ 496 → place ≤ 65535
       → count (λ v. opensTo hch key payload pack place (bytes 512 v)) (256 ^ 512) ≡ 1
-  -- Where numbers 1, 7 and 6 do not apply, number 8 is answered exactly if no payload of 0 to 496 bytes seals to the block.
-  pub eight : (key : List ℕ) (pack place : ℕ) (C : List ℕ) → IsKey key → OfLength 512 C → place ≤ 65535
-      → (numberOf (answerOf hch key pack place C) ≡ 8 → NoPayload hch key pack place C)
-      × (NoPayload hch key pack place C → numberOf (answerOf hch key pack place C) ≡ 8)
   -- ---- What a count is: three of the ten numbers below 10 are 7 or more.
   pub three-of-ten : count (λ v. leb 7 v) 10 ≡ 3

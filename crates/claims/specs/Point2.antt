@@ -2,6 +2,7 @@
 use Prim.Native.Nat.{ℕ, _+_, _-_, _*_, _^_, _≤_, _<_}
 use mathlib.Core.Path.{_≡_}
 use mathlib.Core.List.{List, [], _∷_}
+use mathlib.Core.Logic.{_⊎_}
 use lib.ListN.{length, getD, take, replicate}
 use Rattle.strings.specs.Bytes.{Bytes, OfLength, bytes}
 use Rattle.strings.specs.Call.{numberOf, leftBy}
@@ -37,7 +38,14 @@ Lent key n lengths run = IsKey key × IsPack n run × (length lengths ≡ n)
 abbrev pub NoneOver : (n : ℕ) (lengths : List ℕ) → Type 0
 NoneOver n lengths = (i : ℕ) → i < n → getD lengths i 0 ≤ 496
 
--- No payload of 0 to 496 bytes seals to block i of the run.
+-- The number of a block that no payload seals to, by Point 4 of 02.
+abbrev pub EightOrTwelve : ℕ → Type 0
+EightOrTwelve number = (number ≡ 8) ⊎ (number ≡ 12)
+
+-- Each block before block i opens; and no payload of 0 to 496 bytes seals to block i.
+abbrev pub OthersOpen : (key : List ℕ) (pack first : ℕ) (run : List ℕ) (i : ℕ) → Type 0
+OthersOpen key pack first run i = (j : ℕ) → j < i → ofBlock key pack first run j ≡ 0
+
 abbrev pub NoneSeals : (key : List ℕ) (pack first : ℕ) (run : List ℕ) (i : ℕ) → Type 0
 NoneSeals key pack first run i = (payload : List ℕ) → Bytes payload → length payload ≤ 496 → seal hch key payload pack (first + i) ≡ part i run → ⊥
 
@@ -71,13 +79,13 @@ pub record Point2 : Type 0 where
       → ofOpening key pack first lengths run ≡ 11
   pub open-6 : (key : List ℕ) (n pack first : ℕ) (lengths run : List ℕ) → Lent key n lengths run → 65535 < first + n - 1
       → ofOpening key pack first lengths run ≡ 6
-  -- 8: a block will not open. "the answer adds the smallest failing place": number 8 and the place of block i are answered exactly if no payload seals to it
-  -- and each block before it opens.
-  pub open-8 : (key : List ℕ) (n pack first : ℕ) (lengths run : List ℕ) → Lent key n lengths run → Bytes run → first + n - 1 ≤ 65535 → (i : ℕ) → i < n
-      → (ofOpening key pack first lengths run ≡ 8 → valuesOf (answerOfOpening hch key pack first lengths run) ≡ (first + i) ∷ []
-      → NoneSeals key pack first run i × ((j : ℕ) → j < i → ofBlock key pack first run j ≡ 0))
-      × (NoneSeals key pack first run i → ((j : ℕ) → j < i → ofBlock key pack first run j ≡ 0)
-      → (ofOpening key pack first lengths run ≡ 8) × (valuesOf (answerOfOpening hch key pack first lengths run) ≡ (first + i) ∷ []))
+  -- 8, or by Point 4 of 02 12: a block will not open. "the answer adds the smallest failing place": one of the two and the place of block i are answered exactly if
+  -- no payload seals to it and each block before it opens.
+  pub open-8-or-12 : (key : List ℕ) (n pack first : ℕ) (lengths run : List ℕ) → Lent key n lengths run → Bytes run → first + n - 1 ≤ 65535 → (i : ℕ) → i < n
+      → (EightOrTwelve (ofOpening key pack first lengths run) → valuesOf (answerOfOpening hch key pack first lengths run) ≡ (first + i) ∷ []
+      → NoneSeals key pack first run i × OthersOpen key pack first run i)
+      × (NoneSeals key pack first run i → OthersOpen key pack first run i
+      → EightOrTwelve (ofOpening key pack first lengths run) × (valuesOf (answerOfOpening hch key pack first lengths run) ≡ (first + i) ∷ []))
   -- Else the work is done: each block opens.
   pub open-done : (key : List ℕ) (n pack first : ℕ) (lengths run : List ℕ) → Lent key n lengths run → first + n - 1 ≤ 65535
       → ((i : ℕ) → i < n → ofBlock key pack first run i ≡ 0) → ofOpening key pack first lengths run ≡ 0

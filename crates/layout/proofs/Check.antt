@@ -15,7 +15,7 @@ use Rattle.strings.specs.Inner.{padded, overwrite}
 use Rattle.strings.proofs.Bytes.{length-bytes, bytes-below, bytes-number, number-below, number-bytes, below-append, below-take, below-drop, padded-take}
 use Rattle.strings.proofs.Place.{number-fits, overwrite-head, overwrite-append, overwrite-whole}
 use Rattle.strings.proofs.Equal.{both, equal-append, equal-refl, equal-true}
-use Rattle.layout.specs.Layout.{check, plainBlock, tweak, used, passes}
+use Rattle.layout.specs.Layout.{check, plainBlock, tweak, used, passes, isZero}
 use Rattle.layout.specs.Inner.{fits, verdictOf}
 use Rattle.layout.specs.declared.Verdict.{Verdict}
 use Rattle.layout.specs.declared.Verdict.the-variants.{Passed, Failed}
@@ -267,3 +267,26 @@ completed u block pack place l h =
     let short : length (take u block) ≤ length block = omega (arith, l, h, size) in
     let whole : overwrite 0 (take u block) block ≡ block = rw (overwrite-head (take u block) block short, size) (take-append-drop u block) in
     rw (both-fit (take u block) block (omega (arith, size, h)) l) (rw (whole, size) at (plain-written (take u block) block pack place (omega (arith, size, h)) l))
+
+-- A block of zeros, and no other, is told to be one, by comparing 512 bytes with the number 0.
+pub zero-only : (C : List ℕ) → isZero C ≡ true → C ≡ replicate 512 0
+unfolding isZero
+zero-only C = equal-true C (replicate 512 0)
+
+pub zero-told : (C : List ℕ) → C ≡ replicate 512 0 → isZero C ≡ true
+unfolding isZero
+zero-told C e = rw e (equal-refl (replicate 512 0))
+
+pub not-zero : (C : List ℕ) → (C ≡ replicate 512 0 → ⊥) → isZero C ≡ false
+not-zero C h = by (isZero C) refl
+  where
+    by : (t : Bool) → isZero C ≡ t → t ≡ false
+    by false e = refl
+    by true e = absurd (h (zero-only C e))
+
+pub zero-length : (C : List ℕ) → (length C ≡ 512 → ⊥) → isZero C ≡ false
+zero-length C h = not-zero C (λ e. h (ap length e ∙ length-replicate {A = ℕ} 512 0))
+
+pub zero-bytes : (C : List ℕ) → length C ≡ 512 → equal (take 512 (drop 0 C)) (bytes 512 0) ≡ isZero C
+unfolding isZero
+zero-bytes C h = rw (take-all 512 C (omega (arith, h)), zeros 512)

@@ -39,3 +39,7 @@ payloadOf B = take (used B) B
 -- 01, "compares all of the check with the pack and place that it was given (a u over 496 fails)".
 unfoldable pub passes : (pack place : ℕ) → List ℕ → Bool
 passes pack place B = leb (used B) 496 && equal (drop (used B) B) (check (used B) pack place)
+
+-- 02, Point 4, "all 512 lent bytes are zero".
+unfoldable pub isZero : List ℕ → Bool
+isZero C = equal C (replicate 512 0)

@@ -6,7 +6,7 @@ ghost use lib.Dec.{eqb};
 ghost use lib.ListN.{length, take, drop};
 ghost use Rattle.strings.specs.Bytes.{bytes, equal};
 ghost use Rattle.strings.specs.Inner.{overwrite};
-ghost use Rattle.layout.specs.Layout.{check, plainBlock, tweak as tweakOf, used as usedOf, passes as passesCheck};
+ghost use Rattle.layout.specs.Layout.{check, plainBlock, tweak as tweakOf, used as usedOf, passes as passesCheck, isZero};
 ghost use Rattle.layout.specs.Inner.{fits, verdictOf};
 
 mod finding;
@@ -123,4 +123,14 @@ pub fn read(pack: u64, place: u32, block: &[u8]) -> Verdict
         return Verdict::Passed(used(block));
     }
     Verdict::Failed
+}
+
+// Whether a block is 512 zeros; every byte of it is looked at.
+pub fn is_zero(block: &[u8]) -> bool
+    ensures { λ r. ⌜ r ≡ isZero (now (block .entry)) ⌝ }
+{
+    if block.len() != 512 {
+        return false;
+    }
+    difference(block, 0, 512, 0) == 0
 }

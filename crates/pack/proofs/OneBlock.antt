@@ -4,11 +4,11 @@ use Prim.Native.Nat.{ℕ, _≤_}
 use mathlib.Core.Path.{_≡_, refl, sym, ap, _∙_}
 use mathlib.Core.Bool.{Bool, true, false, cond, not, _&&_, false≢true}
 use mathlib.Core.List.{List, [], _∷_}
-use mathlib.Core.Logic.{inl, inr}
+use mathlib.Core.Logic.{_⊎_, inl, inr, ⊎-elim}
 use native.Mathlib.Omega.{arith}
 use borrow.Author.Tests.{eqb-true, ltb-false, eq-eqb, le-ltb}
 use lib.Dec.{eqb}
-use lib.ListN.{length, getD, take, drop}
+use lib.ListN.{length, getD, take, drop, replicate}
 use lib.Seq.{length-take-le}
 use Rattle.strings.specs.Bytes.{Bytes, OfLength, equal}
 use Rattle.strings.specs.Call.{numberOf as numberOfTests, looksAt, leftBy}
@@ -16,15 +16,15 @@ use Rattle.strings.specs.Cipher.{Scheme}
 use Rattle.strings.specs.declared.refusal.Answer.{Answer}
 use Rattle.strings.specs.declared.refusal.Answer.the-variants.{Done as NoTestHolds, Refused as FirstIs}
 use Rattle.strings.specs.declared.refusal.Refusal.{Refusal}
-use Rattle.strings.specs.declared.refusal.Refusal.the-variants.{KeyLength, CheckFailed}
+use Rattle.strings.specs.declared.refusal.Refusal.the-variants.{KeyLength}
 use Rattle.strings.proofs.Bytes.{below-take}
 use Rattle.strings.proofs.Equal.{both, equal-refl, equal-true}
 use Rattle.strings.proofs.One.{one-string}
-use Rattle.strings.proofs.Refusals.{OneHolds, none-holds, all-passed, one-holds, refused-early, not-false, not-true, refusal-leaves, refused-some}
-use Rattle.layout.specs.Layout.{plainBlock, tweak, used, payloadOf, passes}
-use Rattle.layout.proofs.Check.{plain-of-length, used-plain, take-plain, passes-plain, passes-only}
+use Rattle.strings.proofs.Refusals.{none-holds, all-passed, refused-early, not-false, refusal-leaves, refused-some}
+use Rattle.layout.specs.Layout.{plainBlock, tweak, used, payloadOf, passes, isZero}
+use Rattle.layout.proofs.Check.{plain-of-length, used-plain, take-plain, passes-plain, passes-only, zero-only, zero-told}
 use Rattle.pack.specs.Sealing.{seal, WithinLimits, tests as testsOfSealing, answerOf as answerOfSealing}
-use Rattle.pack.specs.Opening.{numberOf, valuesOf, returning, decipheredBlock, tests, answerOf, opensTo, OneBlock, NoPayload, Eight, Meaning}
+use Rattle.pack.specs.Opening.{numberOf, valuesOf, returning, failure, decipheredBlock, tests, answerOf, opensTo, OneBlock, NoPayload, Failing, Failures, Meaning}
 use Rattle.pack.specs.Inner.{CipherAt, Opens}
 use Rattle.pack.specs.declared.opening.Opened.{Opened}
 use Rattle.pack.specs.declared.opening.Opened.the-variants.{Done, Refused}
@@ -64,7 +64,7 @@ pub record Openable (S : Scheme) (key : List ℕ) (place : ℕ) (C : List ℕ) :
 module _ (S : Scheme) (key : List ℕ) (pack place : ℕ) (C : List ℕ) where
   -- The check alone decides where the other tests are passed.
   pub by-check : Openable S key place C → (t : Bool) → passes pack place (decipheredBlock S key pack place C) ≡ t
-      → answerOf S key pack place C ≡ cond (not t) (Refused CheckFailed) (Done (used (decipheredBlock S key pack place C)))
+      → answerOf S key pack place C ≡ cond (not t) (Refused (failure C)) (Done (used (decipheredBlock S key pack place C)))
   unfolding tests looksAt
   by-check o true e = rw (o .is-key, eq-eqb _ 512 (o .block-length), le-ltb 65535 _ (o .place-limit), e)
   by-check o false e = rw (o .is-key, eq-eqb _ 512 (o .block-length), le-ltb 65535 _ (o .place-limit), e)
@@ -85,7 +85,7 @@ module _ (S : Scheme) (key : List ℕ) (pack place : ℕ) (C : List ℕ) where
   unfolding tests looksAt
   behind-key k = rw k
 
-  -- A refusal before that is the answer, and leaves the block. Then one of the numbers 1, 7 and 6 applies, and number 8 is not asked for.
+  -- A refusal before that is the answer, and leaves the block. Then one of the numbers 1, 7 and 6 applies, and numbers 8 and 12 are not asked for.
   refused-first : {why : Refusal} → looksAt (take 3 (tests S key pack place C)) ≡ FirstIs why → Opens S key pack place C (Refused why) C
   unfolding tests
   refused-first {why} e =
@@ -100,7 +100,7 @@ module _ (S : Scheme) (key : List ℕ) (pack place : ℕ) (C : List ℕ) where
           used-limit = λ z. absurd (refused-some refused z);
           sealed = λ z. absurd (refused-some refused z);
           one-block = λ z. absurd (refused-some refused z);
-          eight = λ k h l. absurd (refused-some e (ap numberOfTests (passed (record { is-key = k; block-length = h; place-limit = l }))));
+          failures = λ k h l. absurd (refused-some e (ap numberOfTests (passed (record { is-key = k; block-length = h; place-limit = l }))));
         };
       }
 
@@ -165,17 +165,12 @@ module _ (S : Scheme) (key : List ℕ) (pack place : ℕ) (C : List ℕ) where
     opens-to o =
         rw (done (admitted (o .answered)), o .used-length, o .front, equal-refl (length payload ∷ [])) (equal-refl payload)
 
-  -- Number 8 is that of the last test alone.
-  last-holds : OneHolds 8 (tests S key pack place C) → passes pack place (decipheredBlock S key pack place C) ≡ false
-  unfolding tests
-  last-holds (inl h) = absurd (omega (arith, h .1))
-  last-holds (inr (inl h)) = absurd (omega (arith, h .1))
-  last-holds (inr (inr (inl h))) = absurd (omega (arith, h .1))
-  last-holds (inr (inr (inr (inl h)))) = not-true _ (h .0)
-  last-holds (inr (inr (inr (inr h)))) = absurd h
-
-  failed : numberOf (answerOf S key pack place C) ≡ 8 → passes pack place (decipheredBlock S key pack place C) ≡ false
-  failed e = last-holds (one-holds 7 (tests S key pack place C) (sym by-tests ∙ e))
+  -- Where the other tests are passed, the number goes by the check, and where that fails by the lent bytes.
+  number-by-check : Openable S key place C → (t z : Bool) → passes pack place (decipheredBlock S key pack place C) ≡ t → isZero C ≡ z
+      → numberOf (answerOf S key pack place C) ≡ cond t 0 (cond z 12 8)
+  number-by-check o true z e f = ap numberOf (by-check o true e)
+  number-by-check o false true e f = ap numberOf (by-check o false e) ∙ rw f
+  number-by-check o false false e f = ap numberOf (by-check o false e) ∙ rw f
 
 -- ---- over any scheme that is a cipher of 512 bytes under the key and the tweak
 
@@ -249,24 +244,40 @@ module _ (S : Scheme) (key : List ℕ) (pack place : ℕ) (cipher : CipherAt S k
         only = only-sealed payload;
       })
 
-  -- A block that no payload seals to fails its check, and one that a payload seals to does not.
-  fails : (C : List ℕ) → S .isKey key ≡ true → OfLength 512 C → place ≤ 65535 → NoPayload S key pack place C
-      → (t : Bool) → passes pack place (decipheredBlock S key pack place C) ≡ t → numberOf (answerOf S key pack place C) ≡ 8
-  fails C k h l none false e = ap numberOf (by-check S key pack place C (record { is-key = k; block-length = h .0; place-limit = l }) false e)
-  fails C k h l none true e =
-      let B = decipheredBlock S key pack place C in
-      let s = sealed-passed C h e in
-      absurd (none (payloadOf B) (s .payload-bytes) (s .payload-length) (s .seals))
+  -- A block fails its check exactly if no payload seals to it.
+  module _ (C : List ℕ) where
+    no-payload : passes pack place (decipheredBlock S key pack place C) ≡ false → NoPayload S key pack place C
+    no-payload e payload b h s =
+        let plain : passes pack place (decipheredBlock S key pack place (seal S key payload pack place)) ≡ true =
+        rw (deciphered-sealed payload b h) (passes-plain payload pack place h) in
+        let passed : passes pack place (decipheredBlock S key pack place C) ≡ true = rw s at plain in
+        false≢true (sym e ∙ passed)
 
-  no-payload : (C : List ℕ) → numberOf (answerOf S key pack place C) ≡ 8 → NoPayload S key pack place C
-  no-payload C e payload b h s =
-      let plain : passes pack place (decipheredBlock S key pack place (seal S key payload pack place)) ≡ true =
-      rw (deciphered-sealed payload b h) (passes-plain payload pack place h) in
-      let passed : passes pack place (decipheredBlock S key pack place C) ≡ true = rw s at plain in
-      false≢true (sym (failed S key pack place C e) ∙ passed)
+    some-payload : OfLength 512 C → passes pack place (decipheredBlock S key pack place C) ≡ true → NoPayload S key pack place C → ⊥
+    some-payload h e none =
+        let s = sealed-passed C h e in
+        none (payloadOf (decipheredBlock S key pack place C)) (s .payload-bytes) (s .payload-length) (s .seals)
 
-  pub eight : (C : List ℕ) → Bytes C → Eight S (numberOf (answerOf S key pack place C)) key pack place C
-  eight C b k h l = (no-payload C, λ none. fails C k (h, b) l none (passes pack place (decipheredBlock S key pack place C)) refl)
+    -- So the numbers that go by the check have their meaning.
+    failing : OfLength 512 C → (t z : Bool) → passes pack place (decipheredBlock S key pack place C) ≡ t → isZero C ≡ z
+        → Failing S (cond t 0 (cond z 12 8)) key pack place C
+    failing h true z e f = record {
+      eight-or-twelve = (⊎-elim (λ n. absurd (omega (arith, n))) (λ n. absurd (omega (arith, n))), λ none. absurd (some-payload h e none));
+      twelve = (λ n. absurd (omega (arith, n)), λ none. absurd (some-payload h e none));
+    }
+    failing h false true e f = record {
+      eight-or-twelve = (λ n. no-payload e, λ none. inr refl);
+      twelve = (λ n. (no-payload e, zero-only C f), λ none zero. refl);
+    }
+    failing h false false e f = record {
+      eight-or-twelve = (λ n. no-payload e, λ none. inl refl);
+      twelve = (λ n. absurd (omega (arith, n)), λ none zero. absurd (false≢true (sym f ∙ zero-told C zero)));
+    }
+
+    pub failures : Bytes C → Failures S (numberOf (answerOf S key pack place C)) key pack place C
+    failures b k h l =
+        let o : Openable S key place C = record { is-key = k; block-length = h; place-limit = l } in
+        rw (number-by-check S key pack place C o _ _ refl refl) (failing (h, b) _ _ refl refl)
 
   -- A number and what is left by it have their meaning.
   meaning : (C : List ℕ) → Bytes C
@@ -288,7 +299,7 @@ module _ (S : Scheme) (key : List ℕ) (pack place : ℕ) (cipher : CipherAt S k
             record { payload-bytes = w .payload-bytes; payload-length = w .payload-length; place-limit = a .within .place-limit } in
             let one : OneBlock S key (payloadOf B) pack place C = rw (w .seals) at (one-block (payloadOf B) (a .within .is-key) limits) in
             rw (left e) one;
-        eight = eight C b;
+        failures = failures C b;
       }
 
   -- So an answer by the definition promises what opening promises.

@@ -1,18 +1,20 @@
 -- Opening by a scheme S: what it answers, and what that means.
 use Prim.Native.Nat.{ℕ, _≤_}
 use mathlib.Core.Path.{_≡_}
-use mathlib.Core.Bool.{Bool, true, not, _&&_}
+use mathlib.Core.Bool.{Bool, true, cond, not, _&&_}
 use mathlib.Core.List.{List, [], _∷_}
+use mathlib.Core.Logic.{_⊎_}
 use lib.Dec.{ltb, eqb}
-use lib.ListN.{length, take}
+use lib.ListN.{length, take, replicate}
 use Rattle.strings.specs.Bytes.{Bytes, equal}
 use Rattle.strings.specs.Cipher.{Scheme}
 use Rattle.strings.specs.One.{OneString}
 use Rattle.strings.specs.Call.{refusalNumber, Tests, looksAt, leftBy}
 use Rattle.strings.specs.declared.refusal.Answer.{Answer}
 use Rattle.strings.specs.declared.refusal.Answer.the-variants.{Done as NoTestHolds, Refused as FirstIs}
-use Rattle.strings.specs.declared.refusal.Refusal.the-variants.{KeyLength, PlaceTooHigh, BlockLength, CheckFailed}
-use Rattle.layout.specs.Layout.{tweak, used, payloadOf, passes}
+use Rattle.strings.specs.declared.refusal.Refusal.{Refusal}
+use Rattle.strings.specs.declared.refusal.Refusal.the-variants.{KeyLength, PlaceTooHigh, BlockLength, CheckFailed, Blank}
+use Rattle.layout.specs.Layout.{tweak, used, payloadOf, passes, isZero}
 use Rattle.pack.specs.Sealing.{seal}
 use Rattle.pack.specs.declared.opening.Opened.{Opened}
 use Rattle.pack.specs.declared.opening.Opened.the-variants.{Done, Refused}
@@ -31,18 +33,22 @@ abbrev pub returning : ℕ → Answer → Opened
 returning u NoTestHolds = Done u
 returning u (FirstIs why) = Refused why
 
+-- 02, Point 4, "12, blank, in the place of 8": why a block that fails its check is refused.
+abbrev pub failure : List ℕ → Refusal
+failure C = cond (isZero C) Blank CheckFailed
+
 module _ (S : Scheme) where
   -- The lent block C deciphered: a plain block, where it passes its check.
   unfoldable pub decipheredBlock : (key : List ℕ) (pack place : ℕ) (C : List ℕ) → List ℕ
   decipheredBlock key pack place C = S .decipher key (tweak pack place) C
 
-  -- 01, "Opening looks at 1, 7, 6, 8".
+  -- 01, "Opening looks at 1, 7, 6, 8"; number 12 stands in the place of 8.
   unfoldable pub tests : (key : List ℕ) (pack place : ℕ) (C : List ℕ) → Tests
   tests key pack place C =
       (not (S .isKey key), KeyLength)
       ∷ (not (eqb (length C) 512), BlockLength)
       ∷ (ltb 65535 place, PlaceTooHigh)
-      ∷ (not (passes pack place (decipheredBlock key pack place C)), CheckFailed)
+      ∷ (not (passes pack place (decipheredBlock key pack place C)), failure C)
       ∷ []
 
   abbrev pub answerOf : (key : List ℕ) (pack place : ℕ) (C : List ℕ) → Opened
@@ -64,11 +70,16 @@ module _ (S : Scheme) where
   abbrev pub NoPayload : (key : List ℕ) (pack place : ℕ) (C : List ℕ) → Type 0
   NoPayload key pack place C = (payload : List ℕ) → Bytes payload → length payload ≤ 496 → seal S key payload pack place ≡ C → ⊥
 
-  -- 01, "Where 1, 7 and 6 do not apply, number 8 is returned exactly if no payload of 0 to 496 bytes seals to these 512 bytes under this key,
-  -- pack and place".
-  abbrev pub Eight : (number : ℕ) (key : List ℕ) (pack place : ℕ) (C : List ℕ) → Type 0
-  Eight number key pack place C = S .isKey key ≡ true → length C ≡ 512 → place ≤ 65535
-      → (number ≡ 8 → NoPayload key pack place C) × (NoPayload key pack place C → number ≡ 8)
+  -- What numbers 8 and 12 mean.
+  pub record Failing (number : ℕ) (key : List ℕ) (pack place : ℕ) (C : List ℕ) : Type 0 where
+    -- 02, Point 4, "no payload seals to the block exactly when it is answered with 8 or blank".
+    pub eight-or-twelve : ((number ≡ 8) ⊎ (number ≡ 12) → NoPayload key pack place C) × (NoPayload key pack place C → (number ≡ 8) ⊎ (number ≡ 12))
+    -- Blank is answered exactly when, besides, all 512 bytes are zero.
+    pub twelve : (number ≡ 12 → NoPayload key pack place C × (C ≡ replicate 512 0)) × (NoPayload key pack place C → C ≡ replicate 512 0 → number ≡ 12)
+
+  -- They mean it "where 1, 7 and 6 do not apply".
+  abbrev pub Failures : (number : ℕ) (key : List ℕ) (pack place : ℕ) (C : List ℕ) → Type 0
+  Failures number key pack place C = S .isKey key ≡ true → length C ≡ 512 → place ≤ 65535 → Failing number key pack place C
 
   -- What a number means when C was to be opened and B is left.
   pub record Meaning (number : ℕ) (key : List ℕ) (pack place : ℕ) (C B : List ℕ) : Type 0 where
@@ -76,4 +87,4 @@ module _ (S : Scheme) where
     pub used-limit : number ≡ 0 → used B ≤ 496
     pub sealed : number ≡ 0 → seal S key (payloadOf B) pack place ≡ C
     pub one-block : number ≡ 0 → OneBlock key (payloadOf B) pack place C
-    pub eight : Eight number key pack place C
+    pub failures : Failures number key pack place C

@@ -10,7 +10,7 @@ use Rattle.strings.specs.Call.{numberOf as numberOfFinding}
 use Rattle.layout.specs.Layout.{plainBlock}
 use Rattle.layout.specs.Finding.{withPart, answerOf as answerOfFinding, found}
 use Rattle.pack.specs.Sealing.{seal, WithinLimits}
-use Rattle.pack.specs.Opening.{numberOf, valuesOf, decipheredBlock, answerOf, opensTo, OneBlock, Eight}
+use Rattle.pack.specs.Opening.{numberOf, valuesOf, decipheredBlock, answerOf, opensTo, OneBlock, Failures}
 
 -- The block of a place is found in a pack of blocks; and the pack once a payload was sealed into that part of it.
 abbrev pub IsFound : (place : ℕ) (blocks : List ℕ) → Type 0
@@ -39,8 +39,8 @@ pub record Pack (S : Scheme) (key : List ℕ) : Type 0 where
   pub others-in-place : (payload : List ℕ) (pack place : ℕ) (blocks : List ℕ) → Bytes payload → length payload ≤ 496 → IsFound place blocks
       → (other : ℕ) → (other ≡ place → ⊥) → (key′ payload′ : List ℕ) (pack′ place′ : ℕ)
       → opensTo S key′ payload′ pack′ place′ (found other (sealedInPlace S key payload pack place blocks)) ≡ opensTo S key′ payload′ pack′ place′ (found other blocks)
-  -- What number 8 means.
-  pub eight : (pack place : ℕ) (C : List ℕ) → Bytes C → Eight S (numberOf (answerOf S key pack place C)) key pack place C
+  -- What numbers 8 and 12 mean.
+  pub failures : (pack place : ℕ) (C : List ℕ) → Bytes C → Failures S (numberOf (answerOf S key pack place C)) key pack place C
 
 pub record Theorems : Type 0 where
   -- For every scheme that is, under this key, a tweakable cipher of 512 bytes.

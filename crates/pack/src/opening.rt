@@ -7,7 +7,7 @@ ghost use Rattle.strings.specs.Call.{looksAt, leftBy};
 ghost use Rattle.strings.specs.Cipher.{Scheme};
 ghost use Rattle.hch.specs.Hch.{hch as scheme};
 ghost use Rattle.hch.specs.Expanded.{hchUnder};
-ghost use Rattle.pack.specs.Opening.{numberOf, decipheredBlock, tests, answerOf, Meaning};
+ghost use Rattle.pack.specs.Opening.{numberOf, failure as failureOf, decipheredBlock, tests, answerOf, Meaning};
 ghost use Rattle.pack.specs.Inner.{Opens};
 use crate::cipher;
 use layout::Verdict;
@@ -42,7 +42,17 @@ fn judge(place: u32, block: &[u8]) -> Answer
         .refuse_if(place > 65535, Refusal::PlaceTooHigh)
 }
 
-// Opens a block that the first tests pass. What fails its check is enciphered again, which gives the lent bytes back.
+// Why a block that fails its check is refused, by its lent bytes.
+fn failure(block: &[u8]) -> Refusal
+    ensures { λ r. ⌜ r ≡ failureOf (now (block .entry)) ⌝ }
+{
+    if layout::is_zero(block) {
+        return Refusal::Blank;
+    }
+    Refusal::CheckFailed
+}
+
+// Opens a block that the first tests pass. What fails its check is enciphered again, which gives the lent bytes back, and only then are these looked at.
 fn open_block(expanded: ExpandedKey, pack: u64, place: u32, block: &mut [u8]) -> Opened
     requires { ⌜ (length (now block) ≡ 512) × (place ≤ 65535) ⌝ }
     ensures { λ r. ⌜ Opens (hchUnder expanded) [] pack place (now (block .entry)) r (now (block .exit)) ⌝ }
@@ -51,7 +61,7 @@ fn open_block(expanded: ExpandedKey, pack: u64, place: u32, block: &mut [u8]) ->
     let verdict = layout::read(pack, place, block);
     let Verdict::Passed(u) = verdict else {
         cipher::encipher(expanded, pack, place, block);
-        return Opened::Refused(Refusal::CheckFailed);
+        return Opened::Refused(failure(block));
     };
     Opened::Done(u)
 }

@@ -3,7 +3,7 @@
 use Prim.Native.Nat.{ℕ, _+_, _*_, _<_}
 use mathlib.Core.Path.{_≡_, refl, sym, ap, _∙_}
 use mathlib.Core.Bool.{false}
-use mathlib.Core.Logic.{⊎-elim}
+use mathlib.Core.Logic.{_⊎_, inl, inr, ⊎-elim}
 use mathlib.Core.List.{List, [], _∷_}
 use native.Mathlib.Nat.{one-mul}
 use native.Mathlib.Omega.{arith}
@@ -19,12 +19,12 @@ use Rattle.layout.specs.Layout.{used, payloadOf}
 use Rattle.layout.specs.Finding.{blockCount, part}
 use Rattle.layout.proofs.Parts.{is-pack, whole-blocks}
 use Rattle.pack.specs.Sealing.{seal}
-use Rattle.pack.specs.Opening.{numberOf as numberOfBlock, decipheredBlock, NoPayload}
+use Rattle.pack.specs.Opening.{numberOf as numberOfBlock, decipheredBlock, Failing as BlockFailing}
 use Rattle.pack.specs.Opening.{answerOf as answerOfBlock}
-use Rattle.pack.proofs.OneBlock.{FromPayload, opened-from, eight as block-eight}
+use Rattle.pack.proofs.OneBlock.{FromPayload, opened-from, failures as block-failures}
 use Rattle.runs.specs.Run.{blockwise}
 use Rattle.runs.specs.Sealing.{someOver, payloadAt, sealedRun}
-use Rattle.runs.specs.Opening.{numberOf, valuesOf, decipheredRun, usedLengths, inTurn, tests, answerOf, OneRun, BlockOpens, EightAt, FirstToFail, Eight, Meaning}
+use Rattle.runs.specs.Opening.{numberOf, valuesOf, decipheredRun, usedLengths, inTurn, tests, answerOf, OneRun, BlockOpens, NumberAt, FirstNumber, Failing, Failures, Meaning}
 use Rattle.runs.specs.Theorems.{WithinLimits}
 use Rattle.runs.specs.declared.opening.RunOpened.{RunOpened}
 use Rattle.runs.specs.declared.opening.RunOpened.the-variants.{Refused}
@@ -36,50 +36,64 @@ use Rattle.runs.proofs.OneRun.{one-run}
 use Rattle.runs.proofs.Sizes.{at, part-of-length, deciphered-part, used-part, deciphered-length}
 
 module _ (S : Scheme) (key : List ℕ) (cipher : TweakableCipher 16 512 (S .encipher key) (S .decipher key)) (pack first : ℕ) (run : List ℕ) (b : Bytes run) where
-  -- ---- number 8 and its place
+  -- ---- the number of a block that will not open, and its place
 
   module _ (lengths : List ℕ) (a : Admitted S key first lengths run) (i : ℕ) (h : i < blockCount run) where
-    block-number : numberOfBlock (answerOfBlock S key pack (first + i) (part i run)) ≡ 8 → NoPayload S key pack (first + i) (part i run)
-    block-number =
-        let p = part-of-length i run b (omega (arith, h)) in
-        block-eight S key pack (first + i) (at S key cipher pack first (first + i)) (part i run) (p .1) (a .is-key) (p .0) (omega (arith, in-range S key first lengths run a .places, h)) .0
-
-    no-payload-eight : NoPayload S key pack (first + i) (part i run) → numberOfBlock (answerOfBlock S key pack (first + i) (part i run)) ≡ 8
-    no-payload-eight =
-        let p = part-of-length i run b (omega (arith, h)) in
-        block-eight S key pack (first + i) (at S key cipher pack first (first + i)) (part i run) (p .1) (a .is-key) (p .0) (omega (arith, in-range S key first lengths run a .places, h)) .1
-
     by-blocks : answerOf S key pack first lengths run ≡ inTurn S key pack first (blockCount run) run
     by-blocks = rw (no-test-holds S key first lengths run a)
 
-    eight-told : EightAt (answerOf S key pack first lengths run) first i → FirstToFail S key pack first run i
-    eight-told e =
-        let n = blockCount run in
-        ⊎-elim (λ (all : AllOpen S key pack first run n). absurd (omega (arith, sym (ap numberOf (by-blocks ∙ all .answered)) ∙ e .0)))
-        (λ (f : FailsAt S key pack first run n).
+    number-told : (n : ℕ) → 0 < n → NumberAt (answerOf S key pack first lengths run) n first i → FirstNumber S n key pack first run i
+    number-told n some e =
+        let count = blockCount run in
+        ⊎-elim (λ (all : AllOpen S key pack first run count). absurd (omega (arith, some, sym (ap numberOf (by-blocks ∙ all .answered)) ∙ e .0)))
+        (λ (f : FailsAt S key pack first run count).
         let told = by-blocks ∙ f .answered in
         let place : first + f .block ≡ first + i = ap (λ (l : List ℕ). getD l 0 0) (sym (ap valuesOf told) ∙ e .1) in
         let same : f .block ≡ i = omega (arith, place) in
-        let number : refusalNumber (f .why) ≡ 8 = sym (ap numberOf told) ∙ e .0 in
-        let refused : numberOfBlock (answerOfBlock S key pack (first + i) (part i run)) ≡ 8 = rw same at (ap numberOfBlock (f .refused) ∙ number) in
-        (block-number refused, rw same at (f .before))) (in-turn S key pack first run n)
+        let number : refusalNumber (f .why) ≡ n = sym (ap numberOf told) ∙ e .0 in
+        let refused : numberOfBlock (answerOfBlock S key pack (first + i) (part i run)) ≡ n = rw same at (ap numberOfBlock (f .refused) ∙ number) in
+        (refused, rw same at (f .before))) (in-turn S key pack first run count)
 
-    eight-answered : FirstToFail S key pack first run i → EightAt (answerOf S key pack first lengths run) first i
-    eight-answered e =
-        let n = blockCount run in
-        let eight = no-payload-eight (e .0) in
-        let shut : BlockOpens S key pack first run i → ⊥ = λ opens. omega (arith, sym eight ∙ opens) in
-        ⊎-elim (λ (all : AllOpen S key pack first run n). absurd (shut (all .each i h)))
-        (λ (f : FailsAt S key pack first run n).
-        let same = same-block S key pack first run n f i shut (e .1) in
+    number-answered : (n : ℕ) → 0 < n → FirstNumber S n key pack first run i → NumberAt (answerOf S key pack first lengths run) n first i
+    number-answered n some e =
+        let count = blockCount run in
+        let shut : BlockOpens S key pack first run i → ⊥ = λ opens. omega (arith, some, sym (e .0) ∙ opens) in
+        ⊎-elim (λ (all : AllOpen S key pack first run count). absurd (shut (all .each i h)))
+        (λ (f : FailsAt S key pack first run count).
+        let same = same-block S key pack first run count f i shut (e .1) in
         let told = by-blocks ∙ f .answered in
-        let number : refusalNumber (f .why) ≡ 8 = sym (ap numberOfBlock (f .refused)) ∙ rw same eight in
-        (ap numberOf told ∙ number, ap valuesOf told ∙ ap (λ (k : ℕ). (first + k) ∷ []) same)) (in-turn S key pack first run n)
+        let number : refusalNumber (f .why) ≡ n = sym (ap numberOfBlock (f .refused)) ∙ rw same (e .0) in
+        (ap numberOf told ∙ number, ap valuesOf told ∙ ap (λ (k : ℕ). (first + k) ∷ []) same)) (in-turn S key pack first run count)
 
-  pub eight : (lengths : List ℕ) → Eight S (answerOf S key pack first lengths run) key pack first lengths run
-  eight lengths k whole list last i h =
+    of-block : BlockFailing S (numberOfBlock (answerOfBlock S key pack (first + i) (part i run))) key pack (first + i) (part i run)
+    of-block =
+        let p = part-of-length i run b (omega (arith, h)) in
+        block-failures S key pack (first + i) (at S key cipher pack first (first + i)) (part i run) (p .1) (a .is-key) (p .0) (omega (arith, in-range S key first lengths run a .places, h))
+
+    failing : Failing S (answerOf S key pack first lengths run) key pack first run i
+    failing =
+        let answer = answerOf S key pack first lengths run in
+        let told8 = number-told 8 (omega arith) in
+        let told12 = number-told 12 (omega arith) in
+        let answered8 = number-answered 8 (omega arith) in
+        let answered12 = number-answered 12 (omega arith) in
+        record {
+          first-number = λ n some. (number-told n some, number-answered n some);
+          eight-or-twelve = (
+            ⊎-elim (λ (e : NumberAt answer 8 first i). (of-block .eight-or-twelve .0 (inl (told8 e .0)), told8 e .1))
+                (λ (e : NumberAt answer 12 first i). (of-block .eight-or-twelve .0 (inr (told12 e .0)), told12 e .1)),
+            λ f. ⊎-elim (λ e. inl (answered8 (e, f .1))) (λ e. inr (answered12 (e, f .1))) (of-block .eight-or-twelve .1 (f .0)),
+          );
+          twelve = (
+            λ e. let zero = of-block .twelve .0 (told12 e .0) in ((zero .0, told12 e .1), zero .1),
+            λ f zero. answered12 (of-block .twelve .1 (f .0) zero, f .1),
+          );
+        }
+
+  pub failures : (lengths : List ℕ) → Failures S (answerOf S key pack first lengths run) key pack first lengths run
+  failures lengths k whole list last i h =
       let a : Admitted S key first lengths run = record { is-key = k; is-run = whole; list-length = list; last-place = last } in
-      (eight-told lengths a i h, eight-answered lengths a i h)
+      failing lengths a i h
 
   -- ---- a run that was opened
 
@@ -151,7 +165,7 @@ module _ (S : Scheme) (key : List ℕ) (cipher : TweakableCipher 16 512 (S .enci
     used-limit = λ e. rw e (used-limit lengths e);
     sealed = λ e. rw e (sealed lengths e);
     one-run = λ e. rw e (one lengths e);
-    eight = eight lengths;
+    failures = failures lengths;
   }
 
   pub means : (lengths : List ℕ) {answer : RunOpened} {lengths′ B : List ℕ} → answer ≡ answerOf S key pack first lengths run
@@ -159,7 +173,7 @@ module _ (S : Scheme) (key : List ℕ) (cipher : TweakableCipher 16 512 (S .enci
       → Meaning S answer key pack first lengths run lengths′ B
   means lengths e l r = rw (l, r, e) (meaning lengths)
 
--- A refusal before a block is opened is the answer, and the numbers 1, 10, 11 and 6 do not leave number 8 to be asked for.
+-- A refusal before a block is opened is the answer, and the numbers 1, 10, 11 and 6 do not leave a block's number to be asked for.
 module _ (S : Scheme) (key : List ℕ) (pack first : ℕ) (lengths run : List ℕ) {why : Refusal} (e : looksAt (tests S key first lengths run) ≡ FirstIs why) where
   pub refused-answer : answerOf S key pack first lengths run ≡ Refused why
   refused-answer = rw e
@@ -171,7 +185,7 @@ module _ (S : Scheme) (key : List ℕ) (pack first : ℕ) (lengths run : List �
         used-limit = λ z. absurd (some z);
         sealed = λ z. absurd (some z);
         one-run = λ z. absurd (some z);
-        eight = λ k whole list last i h.
+        failures = λ k whole list last i h.
             let a : Admitted S key first lengths run = record { is-key = k; is-run = whole; list-length = list; last-place = last } in
             absurd (some (ap numberOfTests (sym e ∙ no-test-holds S key first lengths run a)));
       }

@@ -3,6 +3,7 @@ use Prim.Native.Nat.{ℕ, zero, suc, _+_, _*_, _≤_, _<_}
 use mathlib.Core.Path.{_≡_}
 use mathlib.Core.Bool.{Bool, true, false, not, _&&_}
 use mathlib.Core.List.{List, [], _∷_, _++_}
+use mathlib.Core.Logic.{_⊎_}
 use lib.Dec.{ltb, eqb}
 use lib.ListN.{length, take, replicate}
 use Rattle.strings.specs.Bytes.{equal}
@@ -33,9 +34,9 @@ valuesOf Done = []
 valuesOf (Refused why) = []
 valuesOf (Failed why place) = place ∷ []
 
--- Number 8, with the place of block i.
-abbrev pub EightAt : (answer : RunOpened) (first i : ℕ) → Type 0
-EightAt answer first i = (numberOf answer ≡ 8) × (valuesOf answer ≡ (first + i) ∷ [])
+-- The number n, with the place of block i.
+abbrev pub NumberAt : (answer : RunOpened) (n first i : ℕ) → Type 0
+NumberAt answer n first i = (numberOf answer ≡ n) × (valuesOf answer ≡ (first + i) ∷ [])
 
 -- What the app's out parameter holds after a call: the place of the block that would not open, or what it held before.
 abbrev pub failedPlace : RunOpened → (lent : ℕ) → ℕ
@@ -78,7 +79,7 @@ module _ (S : Scheme) where
   inTurn key pack first zero run = Done
   inTurn key pack first (suc n) run = next (inTurn key pack first n run) (answerOfBlock S key pack (first + n) (part n run)) (first + n)
 
-  -- 02, "opening at 1, 10, 11, 6, 8": 8 is that of a block.
+  -- 02, "opening at 1, 10, 11, 6, 8": 8, and 12 in its place, is that of a block.
   unfoldable pub tests : (key : List ℕ) (first : ℕ) (lengths run : List ℕ) → Tests
   tests key first lengths run =
       (not (S .isKey key), KeyLength)
@@ -113,16 +114,35 @@ module _ (S : Scheme) where
   abbrev pub BlockOpens : (key : List ℕ) (pack first : ℕ) (run : List ℕ) (i : ℕ) → Type 0
   BlockOpens key pack first run i = numberOfBlock (answerOfBlock S key pack (first + i) (part i run)) ≡ 0
 
-  -- No payload seals to block i, and each block before it opens.
-  abbrev pub FirstToFail : (key : List ℕ) (pack first : ℕ) (run : List ℕ) (i : ℕ) → Type 0
-  FirstToFail key pack first run i = NoPayload S key pack (first + i) (part i run) × ((j : ℕ) → j < i → BlockOpens key pack first run j)
+  -- Each block before block i opens.
+  abbrev pub OpensUpTo : (key : List ℕ) (pack first : ℕ) (run : List ℕ) (i : ℕ) → Type 0
+  OpensUpTo key pack first run i = (j : ℕ) → j < i → BlockOpens key pack first run j
 
-  -- 02, "the answer adds the smallest failing place": where 1, 10, 11 and 6 do not apply, number 8 and a place are answered exactly if no payload seals to
-  -- the block of that place and each block before it opens.
-  abbrev pub Eight : (answer : RunOpened) (key : List ℕ) (pack first : ℕ) (lengths run : List ℕ) → Type 0
-  Eight answer key pack first lengths run =
+  -- Each block before block i opens, and the one-block call answers the number n for block i.
+  abbrev pub FirstNumber : (n : ℕ) (key : List ℕ) (pack first : ℕ) (run : List ℕ) (i : ℕ) → Type 0
+  FirstNumber n key pack first run i = (numberOfBlock (answerOfBlock S key pack (first + i) (part i run)) ≡ n) × OpensUpTo key pack first run i
+
+  -- Each block before block i opens, and no payload seals to block i.
+  abbrev pub FirstToFail : (key : List ℕ) (pack first : ℕ) (run : List ℕ) (i : ℕ) → Type 0
+  FirstToFail key pack first run i = NoPayload S key pack (first + i) (part i run) × OpensUpTo key pack first run i
+
+  -- 02, "the answer adds the smallest failing place": what an answer with the place of block i means.
+  pub record Failing (answer : RunOpened) (key : List ℕ) (pack first : ℕ) (run : List ℕ) (i : ℕ) : Type 0 where
+    -- 02, Point 4, "a run gives the number of its first block that will not open".
+    pub first-number : (n : ℕ) → 0 < n
+        → (NumberAt answer n first i → FirstNumber n key pack first run i) × (FirstNumber n key pack first run i → NumberAt answer n first i)
+    -- So 8 or 12 is answered exactly if block i is the first that no payload seals to.
+    pub eight-or-twelve : (NumberAt answer 8 first i ⊎ NumberAt answer 12 first i → FirstToFail key pack first run i)
+        × (FirstToFail key pack first run i → NumberAt answer 8 first i ⊎ NumberAt answer 12 first i)
+    -- And 12 exactly if, besides, all of its 512 bytes are zero.
+    pub twelve : (NumberAt answer 12 first i → FirstToFail key pack first run i × (part i run ≡ replicate 512 0))
+        × (FirstToFail key pack first run i → part i run ≡ replicate 512 0 → NumberAt answer 12 first i)
+
+  -- It means it for each block, where 1, 10, 11 and 6 do not apply.
+  abbrev pub Failures : (answer : RunOpened) (key : List ℕ) (pack first : ℕ) (lengths run : List ℕ) → Type 0
+  Failures answer key pack first lengths run =
       S .isKey key ≡ true → isPack run ≡ true → length lengths ≡ blockCount run → lastPlace first run ≤ 65535 → (i : ℕ) → i < blockCount run
-      → (EightAt answer first i → FirstToFail key pack first run i) × (FirstToFail key pack first run i → EightAt answer first i)
+      → Failing answer key pack first run i
 
   -- What an answer means when the list and C were lent, and `lengths′` and B are left.
   pub record Meaning (answer : RunOpened) (key : List ℕ) (pack first : ℕ) (lengths C lengths′ B : List ℕ) : Type 0 where
@@ -130,4 +150,4 @@ module _ (S : Scheme) where
     pub used-limit : numberOf answer ≡ 0 → someOver 496 lengths′ ≡ false
     pub sealed : numberOf answer ≡ 0 → sealedRun S key pack first lengths′ B ≡ C
     pub one-run : numberOf answer ≡ 0 → OneRun key (blockCount C) (payloadAt lengths′ B) pack first C
-    pub eight : Eight answer key pack first lengths C
+    pub failures : Failures answer key pack first lengths C

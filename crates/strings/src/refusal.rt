@@ -15,6 +15,7 @@ pub enum Refusal {
     CheckFailed,
     PackLength,
     ListLength,
+    Blank,
 }
 
 pub enum Answer {
@@ -38,6 +39,7 @@ impl Refusal {
             Refusal::CheckFailed => 8,
             Refusal::PackLength => 10,
             Refusal::ListLength => 11,
+            Refusal::Blank => 12,
         }
     }
 }

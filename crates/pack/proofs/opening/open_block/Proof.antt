@@ -1,16 +1,16 @@
--- The check decides; what fails it is enciphered again.
+-- The check decides; what fails it is enciphered again, and its lent bytes say why it is refused.
 -- Assumes nothing.
-use mathlib.Core.Path.{_≡_, refl, sym, _∙_}
+use mathlib.Core.Path.{_≡_, refl, sym, ap, _∙_}
 use mathlib.Core.List.{[]}
 use mathlib.Core.Bool.{true, false}
 use borrow.Author.Needs.{needs}
 use borrow.Author.Tests.{eq-eqb}
 use denote.Ref.{now}
 use lib.ListN.{length}
-use Rattle.strings.specs.declared.refusal.Refusal.the-variants.{CheckFailed}
+use Rattle.strings.proofs.Refusals.{refusal-leaves}
 use Rattle.hch.specs.Expanded.{hchUnder}
 use Rattle.layout.proofs.Check.{read-passed, read-failed}
-use Rattle.pack.specs.Opening.{decipheredBlock}
+use Rattle.pack.specs.Opening.{failure, decipheredBlock}
 use Rattle.pack.specs.Inner.{onBlock}
 use Rattle.pack.specs.declared.opening.Opened.the-variants.{Done, Refused}
 use Rattle.pack.proofs.OneBlock.{Openable, by-check, given-back, opens}
@@ -32,13 +32,16 @@ enum-told c = search needs
 encipher-requires : tie.Need-encipher-requires
 encipher-requires c κs = search needs
 
+failure-requires : tie.Need-failure-requires
+failure-requires c κs = search needs
+
 same-length : tie.Need-same-length
 same-length c = search needs
 
 returns : tie.Need-returns
 unfolding decipheredBlock onBlock
 returns c =
-    let again = c .before .before in
+    let again = c .before .before .before .before in
     let told = again .before .before in
     let read = told .before .before in
     let d = read .before .before .before .before in
@@ -59,7 +62,9 @@ returns c =
     let left : again .encipher .last .1 .1 .1 .0 ≡ C =
     rw (again .encipher .ensures .0, plain, eq-eqb (length B) 512 long)
     (given-back S [] pack place cipher C (size, λ i. known .slice-known .given i .fits)) in
-    opens S [] pack place cipher C _ (Refused CheckFailed) (λ i. known .slice-known .given i .fits) (sym (by-check S [] pack place C o false failed)) left
+    let why : c .failure .result ≡ failure C = rw left at (c .failure .ensures) in
+    opens S [] pack place cipher C _ (Refused _) (λ i. known .slice-known .given i .fits) (ap Refused why ∙ sym (by-check S [] pack place C o false failed))
+    (left ∙ refusal-leaves (c .failure .result) B C)
 
 same-length-2 : tie.Need-same-length-2
 same-length-2 c = search needs
@@ -94,6 +99,7 @@ open-block-spec =
     enum-known-verdict
     enum-told
     encipher-requires
+    failure-requires
     same-length
     returns
     same-length-2

@@ -1,0 +1,130 @@
+/* Blocks of zeros: "If the check fails and all 512 lent bytes are zero, the slot is called blank." Any other block that
+   fails its check is answered with 8, however near it comes. The group of order has zeros of other lengths, and that of
+   runs has blocks of zeros among others. */
+#include "good.h"
+#include "groups.h"
+#include "report.h"
+#include <string.h>
+
+static const uint8_t zeros[SIZE];
+
+/* The block, alone and as a run of one, for the key, the pack and the place of the call. If it opens, its payload is
+   empty. */
+static void hold_block(call c, const uint8_t block[SIZE], uint32_t number, const uint8_t after[SIZE]) {
+    static const uint16_t any_number = 12345, none = 0;
+    c.name = OPEN;
+    c.data = (slice){block, SIZE};
+    c.after = after;
+    c.number = number;
+    hold(&c);
+    c.name = OPEN_RUN;
+    c.list = (slice){(const uint8_t *)&any_number, sizeof any_number};
+    c.list_after = (const uint8_t *)(number == 0 ? &none : &any_number);
+    c.failed_place = c.place;
+    hold(&c);
+}
+
+static void hold_failing(call c, const uint8_t block[SIZE], uint32_t number) { hold_block(c, block, number, block); }
+
+/* For packs and places at their edges and between. */
+static void hold_zeros(slice key) {
+    static const uint64_t packs[] = {0, 1, 0x0123456789abcdef, INT64_MAX, (uint64_t)1 << 63, UINT64_MAX};
+    static const uint32_t places[] = {0, 1, 258, 65534, 65535};
+    TRYING("a block of zeros");
+    for (size_t i = 0; i < COUNT(packs) * COUNT(places); i++) {
+        call c = {.key = key, .pack = packs[i / COUNT(places)], .place = places[i % COUNT(places)]};
+        hold_failing(c, zeros, 12);
+    }
+}
+
+/* Keys of the same length: of zeros, of ones, and any others. */
+static void hold_keys(slice key) {
+    uint8_t other[32];
+    for (uint32_t i = 0; i < 6; i++) {
+        if (i < 2) memset(other, i == 0 ? 0 : 0xff, sizeof other);
+        else fill(other, sizeof other, i);
+        hold_zeros((slice){other, key.length});
+    }
+}
+
+/* One bit in each byte of the block, from the highest of the first byte to the lowest of the last; and one bit in all
+   bytes, which are zero when they are added up in 8 bits, and by exclusive or. */
+static void hold_bits(call c) {
+    uint8_t block[SIZE];
+    for (size_t i = 0; i < SIZE; i++) {
+        TRYING("zeros but for a bit of byte %zu", i);
+        memset(block, 0, SIZE);
+        block[i] = (uint8_t)(0x80 >> i % 8);
+        hold_failing(c, block, 8);
+    }
+    for (int i = 0; i < 8; i++) {
+        TRYING("bit %d alone in all bytes", i);
+        memset(block, 1 << i, SIZE);
+        hold_failing(c, block, 8);
+    }
+}
+
+/* What deciphers to zeros is not blank. For pack 0 and place 0 it is the block of an empty payload, which opens, and
+   for another place it fails its check. */
+static void hold_deciphering_to_zeros(slice key) {
+    uint8_t block[SIZE], tweak[16] = {0};
+    for (uint8_t place = 0; place < 2; place++) {
+        TRYING("a block that deciphers to zeros, for place %d", place);
+        call c = {.key = key, .place = place};
+        tweak[15] = place;
+        memset(block, 0, SIZE);
+        if (boards.encipher(key.bytes, key.length, tweak, 16, block, SIZE) != 0) DIFFERS("it is not enciphered");
+        if (place == 0) hold_block(c, block, 0, zeros);
+        else hold_failing(c, block, 8);
+    }
+}
+
+/* This block of a file is blank; then a payload is sealed into it, and it opens. */
+static void hold_sealing(const call good[FUNCTIONS], uint8_t file[RUN], uint32_t at) {
+    const call *payloads = &good[SEAL_RUN];
+    call seal = good[SEAL], open = good[OPEN];
+    seal.place = open.place = payloads->place + at;
+    seal.payload = (slice){payloads->data.bytes + SIZE * at, ((const uint16_t *)payloads->list.bytes)[at]};
+    seal.data.bytes = file + SIZE * at;
+    seal.after = open.data.bytes = payloads->after + SIZE * at;
+    open.after = good[OPEN_RUN].after + SIZE * at;
+    open.payload_length = seal.payload.length;
+    hold_failing(open, file + SIZE * at, 12);
+    hold(&seal);
+    hold(&open);
+    memcpy(file + SIZE * at, seal.after, SIZE);
+}
+
+/* A new file of zeros, into which two blocks are sealed, one by one. Until both are, the run is not opened, and the
+   first block that is still blank is told; then it is opened. */
+static void hold_new_file(const call good[FUNCTIONS], uint32_t sealed_first) {
+    uint8_t file[RUN] = {0};
+    call opened = good[OPEN_RUN], run = opened;
+    TRYING("a new file, block %d sealed first", (int)sealed_first);
+    opened.data.bytes = run.data.bytes = run.after = file;
+    run.list_after = run.list.bytes;
+    run.number = 12;
+    run.failed_place = run.place;
+    hold(&run);
+    hold_sealing(good, file, sealed_first);
+    run.failed_place = run.place + 1 - sealed_first;
+    hold(&run);
+    hold_sealing(good, file, 1 - sealed_first);
+    hold(&opened);
+}
+
+static void hold_blank(slice key) {
+    call good[FUNCTIONS], c = {.key = key, .pack = 1, .place = 2};
+    make_good(good, key);
+    hold_zeros(key);
+    hold_bits(c);
+    hold_deciphering_to_zeros(key);
+    hold_new_file(good, 0);
+    hold_new_file(good, 1);
+    hold_keys(key);
+}
+
+void blank(void) {
+    under_each_key(hold_blank);
+    printf("%lu calls\n", calls);
+}
