@@ -42,12 +42,15 @@ NoneOver n lengths = (i : ℕ) → i < n → getD lengths i 0 ≤ 496
 abbrev pub EightOrTwelve : ℕ → Type 0
 EightOrTwelve number = (number ≡ 8) ⊎ (number ≡ 12)
 
--- Each block before block i opens; and no payload of 0 to 496 bytes seals to block i.
-abbrev pub OthersOpen : (key : List ℕ) (pack first : ℕ) (run : List ℕ) (i : ℕ) → Type 0
-OthersOpen key pack first run i = (j : ℕ) → j < i → ofBlock key pack first run j ≡ 0
+-- No payload of 0 to 496 bytes seals to the block C; none seals to block i of a run; and each block before block i opens.
+abbrev pub NoneSealsTo : (key : List ℕ) (pack place : ℕ) (C : List ℕ) → Type 0
+NoneSealsTo key pack place C = (payload : List ℕ) → Bytes payload → length payload ≤ 496 → seal hch key payload pack place ≡ C → ⊥
 
 abbrev pub NoneSeals : (key : List ℕ) (pack first : ℕ) (run : List ℕ) (i : ℕ) → Type 0
-NoneSeals key pack first run i = (payload : List ℕ) → Bytes payload → length payload ≤ 496 → seal hch key payload pack (first + i) ≡ part i run → ⊥
+NoneSeals key pack first run i = NoneSealsTo key pack (first + i) (part i run)
+
+abbrev pub OthersOpen : (key : List ℕ) (pack first : ℕ) (run : List ℕ) (i : ℕ) → Type 0
+OthersOpen key pack first run i = (j : ℕ) → j < i → ofBlock key pack first run j ≡ 0
 
 -- n payloads, and places from `first` on, within the limits.
 abbrev pub Payloads : (n : ℕ) (payload : ℕ → List ℕ) (first : ℕ) → Type 0

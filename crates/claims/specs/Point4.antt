@@ -4,26 +4,21 @@ use Prim.Native.Nat.{ℕ, _+_, _-_, _≤_, _<_}
 use mathlib.Core.Path.{_≡_}
 use mathlib.Core.Bool.{true}
 use mathlib.Core.List.{List, [], _∷_, _++_}
-use lib.ListN.{length, replicate}
+use lib.ListN.{replicate}
 use Rattle.strings.specs.Bytes.{Bytes, OfLength}
 use Rattle.strings.specs.Call.{leftBy}
 use Rattle.strings.specs.Cipher.{Scheme}
 use Rattle.layout.specs.Layout.{used, passes}
 use Rattle.layout.specs.Finding.{part}
 use Rattle.hch.specs.Hch.{hch}
-use Rattle.pack.specs.Sealing.{seal}
 use Rattle.pack.specs.Opening.{numberOf, valuesOf, decipheredBlock, answerOf}
 use Rattle.runs.specs.Opening.{valuesOf as valuesOfRun, answerOf as answerOfRun}
 use Rattle.claims.specs.Demand1.{IsKey, ofOpening}
-use Rattle.claims.specs.Point2.{ofOpening as ofRun, ofBlock, Lent, EightOrTwelve, OthersOpen, NoneSeals}
+use Rattle.claims.specs.Point2.{ofOpening as ofRun, ofBlock, Lent, EightOrTwelve, NoneSealsTo, NoneSeals, OthersOpen}
 
 -- 512 zeros.
 abbrev pub zeros : List ℕ
 zeros = replicate 512 0
-
--- No payload of 0 to 496 bytes seals to C.
-abbrev pub NoneSealsTo : (key : List ℕ) (pack place : ℕ) (C : List ℕ) → Type 0
-NoneSealsTo key pack place C = (payload : List ℕ) → Bytes payload → length payload ≤ 496 → seal hch key payload pack place ≡ C → ⊥
 
 -- A scheme for the examples, which leaves every message as it is.
 abbrev pub unchanged : Scheme

@@ -51,14 +51,10 @@ in-turn ((false, why) ∷ tests) = in-turn tests
 
 -- ---- what the answer tells
 
--- No test holds; and one holds whose refusal has the number n.
+-- No test holds.
 abbrev pub NoneHolds : Tests → Type 0
 NoneHolds [] = Unit {0}
 NoneHolds ((holds, why) ∷ tests) = (holds ≡ false) × NoneHolds tests
-
-abbrev pub OneHolds : ℕ → Tests → Type 0
-OneHolds n [] = ⊥
-OneHolds n ((holds, why) ∷ tests) = ((holds ≡ true) × (refusalNumber why ≡ n)) ⊎ OneHolds n tests
 
 pub none-holds : (tests : Tests) → numberOf (looksAt tests) ≡ 0 → NoneHolds tests
 unfolding looksAt
@@ -71,12 +67,6 @@ unfolding looksAt
 all-passed [] h = refl
 all-passed ((holds, why) ∷ tests) h = rw (h .0) (all-passed tests (h .1))
 
-pub one-holds : (n : ℕ) (tests : Tests) → numberOf (looksAt tests) ≡ suc n → OneHolds (suc n) tests
-unfolding looksAt
-one-holds n [] e = absurd (omega (arith, e))
-one-holds n ((true, why) ∷ tests) e = inl (refl, e)
-one-holds n ((false, why) ∷ tests) e = inr (one-holds n tests e)
-
 -- A refusal by the first n tests is one by all of them.
 pub refused-early : (n : ℕ) (tests : Tests) (why : Refusal) → looksAt (take n tests) ≡ Refused why → looksAt tests ≡ Refused why
 unfolding looksAt
@@ -88,10 +78,6 @@ refused-early (suc n) ((false, first) ∷ tests) why e = refused-early n tests w
 pub not-false : (t : Bool) → not t ≡ false → t ≡ true
 not-false true e = refl
 not-false false e = sym e
-
-pub not-true : (t : Bool) → not t ≡ true → t ≡ false
-not-true true e = sym e
-not-true false e = refl
 
 pub either : (a b : Bool) → (a || b) ≡ true → (a ≡ true) ⊎ (b ≡ true)
 either true b e = inl refl
