@@ -13,18 +13,21 @@
  * of 496 bytes. Its last payload is shorter, and empty if nothing is left for it, so that a board's end is told from
  * its blocks alone: a board of 1,236 bytes takes three blocks, of 496, 496 and 244 bytes.
  *
- * An empty slot is a block of zero bytes, where nothing was ever saved: a new save file may be full of them. It is no
- * damage, and check counts it apart. add fills the empty slots behind the last board, not those in front of it, and the
- * file grows where they do not suffice. get and chapter say of an empty slot that it was never saved; those at the end
- * of the file do not keep chapter from the boards in front of them.
+ * An empty slot is a block of zero bytes. A new save file may be full of them. It is no damage, and check counts it
+ * apart. add fills the empty slots behind the last board, not those in front of it, and the file grows where they do
+ * not suffice. get and chapter say of an empty slot that it was never saved; those at the end of the file do not keep
+ * chapter from the boards in front of them. A saved block that was overwritten with zeros later is an empty slot too:
+ * check counts it as never saved, and add may fill it. check also tells of a board whose end is missing, because an
+ * empty slot or the end of the file comes first.
  *
- * One program at a time may add to a pack file. If two add at once, the second is told that its board was not saved
- * where the file grows at its end; where both fill the same empty slots, a board may be lost, and nobody is told.
+ * One program at a time may add to a pack file. If two add at once and the file grows at its end, the second is told
+ * that its board was not saved. If both fill the same empty slots, a board may be lost, and nobody is told.
  * If a board was not saved whole, the file takes no more until it is cut back to the end of its last whole board, or
  * holds zero bytes from there on. If it ends within a block, it gives none either, but check still looks at the blocks
  * in front of that one.
  *
- * Status 0: all was done. 1: something was refused, is damaged or could not be read or written. 2: wrong arguments.
+ * Status 0: all was done; check has found nothing damaged and no board without its end. 1: something was refused, was
+ * never saved, is damaged, or could not be read or written. 2: wrong arguments.
  */
 #include <boards.h>
 #include <errno.h>
@@ -113,7 +116,7 @@ static bool is_empty(uint32_t place) {
     return boards_open(key, key_length, pack_number, place, block, sizeof block) == BOARDS_BLANK;
 }
 
-/* The number of places without the empty slots at the end of the pack, but no less than the least. */
+/* The number of places up to the last that is not an empty slot, but at least this many. */
 static uint32_t saved_places(uint32_t least) {
     uint32_t count = (uint32_t)(pack_length / BOARDS_BLOCK_SIZE);
     while (count > least && is_empty(count - 1)) count--;
@@ -127,7 +130,7 @@ static uint32_t seal_board(const uint8_t *board, size_t length, uint32_t first) 
     uint32_t count = (uint32_t)(length / BOARDS_PAYLOAD_MAX) + 1;
     need_at(BOARDS_PACK_BLOCKS_MAX, first + count <= BOARDS_PACK_BLOCKS_MAX,
             "the board does not fit in: a pack has 128 blocks at most");
-    pack_length = (size_t)(first + count) * BOARDS_BLOCK_SIZE; /* the pack ends with this board, and has its blocks */
+    pack_length = (size_t)(first + count) * BOARDS_BLOCK_SIZE; /* it now ends with this board */
     for (uint32_t i = 0; i < count; i++) {
         lengths[i] = (uint16_t)(i + 1 < count ? BOARDS_PAYLOAD_MAX : length % BOARDS_PAYLOAD_MAX);
         memcpy(find(first + i), board + (size_t)BOARDS_PAYLOAD_MAX * i, lengths[i]);
@@ -206,8 +209,8 @@ static void chapter(uint32_t first, char **names, size_t boards) {
     }
 }
 
-/* Where the file ends within a block, the whole ones are looked at before this is told. A board whose payload is full
-   goes on in the next block: where that was never saved, its end is missing. */
+/* Where the file ends within a block, the whole ones are looked at before this is told. The board of a block whose
+   payload is full goes on in the next one: where that was never saved, the board's end is missing. */
 static void check(void) {
     uint32_t answers[BOARDS_PACK_BLOCKS_MAX + 1], count = 0, empty = 0, damaged = 0;
     read_pack();

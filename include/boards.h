@@ -23,23 +23,24 @@
  * the length of each block's payload. Each payload is sealed where it stands, at the front of its block. Of a run, all
  * blocks are opened or none is.
  *
- * A new file is often filled with zeros. A block of 512 zeros that will not open is blank: boards_open and
- * boards_open_run answer 12 for it, and 8 for any other block that will not open. So a user who looks where nothing was
- * saved yet need not be told that something is damaged. 12 tells of the zeros and not of how they came there: a block
- * that was overwritten with zeros later is blank too.
+ * A new file is often filled with zeros. A block of 512 zeros that will not open is blank: boards_open answers 12 for
+ * it, and 8 for any other block that will not open. Of a run, the first block that will not open decides. So a user who
+ * looks where nothing was saved yet need not be told that something is damaged. 12 tells of the zeros and not of how
+ * they came there: a block that was overwritten with zeros later is blank too.
  *
  * A key is 16 bytes long, for AES-128, or 32 bytes long, for AES-256. Every call that takes a key takes both lengths.
  * Decipher and open with the key that you enciphered and sealed with. With another one boards_decipher leaves some
- * other board, and boards_open and boards_open_run answer 8, or 12 for a block of zeros: this is not proved, but
- * that they do not is as unlikely as guessing 16 bytes. No key is known under which a block of zeros opens. A key of 32
- * bytes is not one of 16 with more bytes behind it: its first 16 bytes are another key. To give a pack a longer key,
+ * other board, and boards_open and boards_open_run answer 8: this is not proved, but that they do not is as unlikely as
+ * guessing 16 bytes. A block of zeros is blank under every key that is known, so 12 says nothing of the key. A key of
+ * 32 bytes is not one of 16 with more bytes behind it: its first 16 bytes are another key. To give a pack a longer key,
  * call boards_open_run with the old key and, if it answered 0, boards_seal_run with the new key on the same run and
  * list. Where the pack has blank blocks, open and seal the others, and leave the blank ones as they are.
  *
  * Of the programs that were written for version 0.12, those that treat every answer but 0 alike need no change. One
  * that asks for 8, or switches on the number, has to know 12: it stands in the place of 8 where the block is all zeros,
  * and *failed is written with it as with 8. Every other answer is the same, and so is every byte that is enciphered,
- * deciphered, sealed or opened. Keys of 32 bytes came with 0.12: 0.11 refused them with 1.
+ * deciphered, sealed or opened. Compile with this header: 0.12's boards_reason does not know 12. Keys of 32 bytes came
+ * with 0.12: 0.11 refused them with 1.
  *
  * Each call does its work on the bytes that it is lent and answers 0, or it answers the number of what is wrong and
  * leaves every byte as it was, but for the place that boards_open_run writes to *failed. It does so for every key,
@@ -119,7 +120,7 @@
 #define BOARDS_LINE_NOT_UNDERSTOOD 9 /* said by the command boardline alone: no function here answers it */
 #define BOARDS_WRONG_PACK_SIZE 10    /* the pack or the run is not 1 to 128 whole blocks of 512 bytes */
 #define BOARDS_WRONG_LIST_SIZE 11    /* the list does not have one number for each block of the run */
-#define BOARDS_BLANK 12              /* as 8, but the block is blank: all its 512 bytes are zero, as in a new file */
+#define BOARDS_BLANK 12              /* no payload seals to this block, and its 512 bytes are zero, as in a new file */
 
 /* Lets the compiler warn where an answer is not looked at: the data of a refused call is still the plain board. */
 #if defined(__GNUC__)
@@ -240,7 +241,7 @@ uint32_t boards_seal_run(const uint8_t *key, size_t key_length, uint64_t pack, u
  * Answers 8 or 12 where none of these applies and a block will not open (BOARDS_CHECK_FAILED, BOARDS_BLANK): run and
  * lengths are as they were. *failed is the smallest place whose block boards_open would not open, and the answer is
  * what boards_open answers for that block; of the blocks behind it nothing is told. So a run with a blank block is not
- * opened: open what stands before it and behind it by calls of its own.
+ * opened: open the blocks before it and behind it by other calls.
  * With any answer but 8 and 12, BOARDS_DONE too, *failed is not written.
  */
 BOARDS_LOOK_AT_ANSWER
