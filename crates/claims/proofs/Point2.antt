@@ -17,7 +17,7 @@ use Rattle.hch.specs.Hch.{hch}
 use Rattle.layout.specs.Finding.{isPack}
 use Rattle.runs.specs.Run.{times}
 use Rattle.runs.specs.Sealing.{someOver, tests as testsOfSealing}
-use Rattle.runs.specs.Opening.{tests as testsOfOpening, answerOf, NumberAt, Failing}
+use Rattle.runs.specs.Opening.{tests as testsOfOpening, answerOf, NumberAt, Unopened}
 use Rattle.runs.specs.Theorems.{Runs, WithinLimits, laidOut}
 use Rattle.runs.proofs.Answers.{all-open}
 use Rattle.runs.proofs.Lists.{some-over, over-some}
@@ -32,13 +32,6 @@ use Rattle.claims.proofs.Point1.{blocks, is-one, not-a-pack}
 
 hch-runs : (key : List ℕ) → IsKey key → Runs hch key
 hch-runs key k = RunTheorems.theorems .any-cipher hch key (is-key key k) (hch-tweakable key)
-
-pub run-failing : (key : List ℕ) (n pack first : ℕ) (lengths run : List ℕ) → Lent key n lengths run → Bytes run → first + n - 1 ≤ 65535 → (i : ℕ) → i < n
-    → Failing hch (answerOf hch key pack first lengths run) key pack first run i
-run-failing key n pack first lengths run l b last i h =
-    let k = l .0 in
-    let c : length run / 512 ≡ n = blocks n run (l .1) in
-    hch-runs key k .failures pack first lengths run b (is-key key k) (is-one n run (l .1)) (l .2 ∙ sym c) (rw c last) i (rw c h)
 
 -- ---- the numbers
 
@@ -68,6 +61,12 @@ module _ (key : List ℕ) (n first : ℕ) (lengths run : List ℕ) (l : Lent key
 
   same-list : length lengths ≡ length run / 512
   same-list = l .2 ∙ sym count
+
+  -- What 8 and 12 mean, for the place of block i.
+  pub run-unopened : (pack : ℕ) → Bytes run → first + n - 1 ≤ 65535 → (i : ℕ) → i < n → Unopened hch (answerOf hch key pack first lengths run) key pack first run i
+  run-unopened pack b last i h =
+      let near : first + length run / 512 - 1 ≤ 65535 = rw count last in
+      hch-runs key (l .0) .unopened pack first lengths run b (is-key key (l .0)) (is-one n run (l .1)) same-list near i (rw count h)
 
   seals-5 : (i : ℕ) → 496 < getD lengths i 0 → ofSealing key first lengths run ≡ 5
   unfolding testsOfSealing looksAt
@@ -150,7 +149,7 @@ point-2 = record {
   open-11 = λ key n pack first lengths run k p. opens-11 key n first lengths run k p pack;
   open-6 = λ key n pack first lengths run l. opens-6 key n first lengths run l pack;
   open-8-or-12 = λ key n pack first lengths run l b last i h.
-      let told = run-failing key n pack first lengths run l b last i h .eight-or-twelve in
+      let told = run-unopened key n first lengths run l pack b last i h .eight-or-twelve in
       let at : ℕ → Type 0 = λ number. NumberAt (answerOf hch key pack first lengths run) number first i in (
         λ e place. told .0 (⊎-elim (λ e8. inl (e8, place)) (λ e12. inr (e12, place)) e),
         λ none before. ⊎-elim (λ (e : at 8). (inl (e .0), e .1)) (λ (e : at 12). (inr (e .0), e .1)) (told .1 (none, before)),

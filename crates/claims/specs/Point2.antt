@@ -42,15 +42,16 @@ NoneOver n lengths = (i : ℕ) → i < n → getD lengths i 0 ≤ 496
 abbrev pub EightOrTwelve : ℕ → Type 0
 EightOrTwelve number = (number ≡ 8) ⊎ (number ≡ 12)
 
--- No payload of 0 to 496 bytes seals to the block C; none seals to block i of a run; and each block before block i opens.
+-- No payload of 0 to 496 bytes seals to the block C, and none to block i of a run.
 abbrev pub NoneSealsTo : (key : List ℕ) (pack place : ℕ) (C : List ℕ) → Type 0
 NoneSealsTo key pack place C = (payload : List ℕ) → Bytes payload → length payload ≤ 496 → seal hch key payload pack place ≡ C → ⊥
 
 abbrev pub NoneSeals : (key : List ℕ) (pack first : ℕ) (run : List ℕ) (i : ℕ) → Type 0
 NoneSeals key pack first run i = NoneSealsTo key pack (first + i) (part i run)
 
-abbrev pub OthersOpen : (key : List ℕ) (pack first : ℕ) (run : List ℕ) (i : ℕ) → Type 0
-OthersOpen key pack first run i = (j : ℕ) → j < i → ofBlock key pack first run j ≡ 0
+-- Each block before block i opens.
+abbrev pub EarlierOpen : (key : List ℕ) (pack first : ℕ) (run : List ℕ) (i : ℕ) → Type 0
+EarlierOpen key pack first run i = (j : ℕ) → j < i → ofBlock key pack first run j ≡ 0
 
 -- n payloads, and places from `first` on, within the limits.
 abbrev pub Payloads : (n : ℕ) (payload : ℕ → List ℕ) (first : ℕ) → Type 0
@@ -82,12 +83,12 @@ pub record Point2 : Type 0 where
       → ofOpening key pack first lengths run ≡ 11
   pub open-6 : (key : List ℕ) (n pack first : ℕ) (lengths run : List ℕ) → Lent key n lengths run → 65535 < first + n - 1
       → ofOpening key pack first lengths run ≡ 6
-  -- 8, or by Point 4 of 02 12: a block will not open. "the answer adds the smallest failing place": one of the two and the place of block i are answered exactly if
+  -- 8, or 12 by Point 4 of 02: a block will not open. "the answer adds the smallest failing place": one of the two and the place of block i are answered exactly if
   -- no payload seals to it and each block before it opens.
   pub open-8-or-12 : (key : List ℕ) (n pack first : ℕ) (lengths run : List ℕ) → Lent key n lengths run → Bytes run → first + n - 1 ≤ 65535 → (i : ℕ) → i < n
       → (EightOrTwelve (ofOpening key pack first lengths run) → valuesOf (answerOfOpening hch key pack first lengths run) ≡ (first + i) ∷ []
-      → NoneSeals key pack first run i × OthersOpen key pack first run i)
-      × (NoneSeals key pack first run i → OthersOpen key pack first run i
+      → NoneSeals key pack first run i × EarlierOpen key pack first run i)
+      × (NoneSeals key pack first run i → EarlierOpen key pack first run i
       → EightOrTwelve (ofOpening key pack first lengths run) × (valuesOf (answerOfOpening hch key pack first lengths run) ≡ (first + i) ∷ []))
   -- Else the work is done: each block opens.
   pub open-done : (key : List ℕ) (n pack first : ℕ) (lengths run : List ℕ) → Lent key n lengths run → first + n - 1 ≤ 65535

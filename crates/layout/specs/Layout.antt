@@ -1,4 +1,4 @@
--- The 512-byte block of 01, sentence by sentence. Numbers are big-endian: `bytes n a` is a in n bytes.
+-- The 512-byte block of 01, sentence by sentence, and when a block is zero, from Point 4 of 02. Numbers are big-endian: `bytes n a` is a in n bytes.
 use Prim.Native.Nat.{ℕ, _-_}
 use mathlib.Core.Bool.{Bool, _&&_}
 use mathlib.Core.List.{List, _++_}

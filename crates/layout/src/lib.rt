@@ -1,4 +1,4 @@
-// The plain block of 512 bytes and its tweak, as 01 lays them out, and where a block stands in a pack, on lent bytes. Nothing here knows of a cipher.
+// The plain block of 512 bytes and its tweak, as 01 lays them out, a block of zeros, and where a block stands in a pack, on lent bytes. Nothing here knows of a cipher.
 ghost use Prim.Native.Nat.{_+_, _≤_};
 ghost use mathlib.Core.Path.{_≡_};
 ghost use mathlib.Core.Bool.{cond};

@@ -24,7 +24,7 @@ use Rattle.strings.proofs.Refusals.{none-holds, all-passed, refused-early, not-
 use Rattle.layout.specs.Layout.{plainBlock, tweak, used, payloadOf, passes, isZero}
 use Rattle.layout.proofs.Check.{plain-of-length, used-plain, take-plain, passes-plain, passes-only, zero-only, zero-told}
 use Rattle.pack.specs.Sealing.{seal, WithinLimits, tests as testsOfSealing, answerOf as answerOfSealing}
-use Rattle.pack.specs.Opening.{numberOf, valuesOf, returning, failure, decipheredBlock, tests, answerOf, opensTo, OneBlock, NoPayload, Failing, Failures, Meaning}
+use Rattle.pack.specs.Opening.{numberOf, valuesOf, returning, failure, decipheredBlock, tests, answerOf, opensTo, OneBlock, NoPayload, Unopened, UnopenedMeaning, Meaning}
 use Rattle.pack.specs.Inner.{CipherAt, Opens}
 use Rattle.pack.specs.declared.opening.Opened.{Opened}
 use Rattle.pack.specs.declared.opening.Opened.the-variants.{Done, Refused}
@@ -100,7 +100,7 @@ module _ (S : Scheme) (key : List ℕ) (pack place : ℕ) (C : List ℕ) where
           used-limit = λ z. absurd (refused-some refused z);
           sealed = λ z. absurd (refused-some refused z);
           one-block = λ z. absurd (refused-some refused z);
-          failures = λ k h l. absurd (refused-some e (ap numberOfTests (passed (record { is-key = k; block-length = h; place-limit = l }))));
+          unopened = λ k h l. absurd (refused-some e (ap numberOfTests (passed (record { is-key = k; block-length = h; place-limit = l }))));
         };
       }
 
@@ -259,25 +259,25 @@ module _ (S : Scheme) (key : List ℕ) (pack place : ℕ) (cipher : CipherAt S k
         none (payloadOf (decipheredBlock S key pack place C)) (s .payload-bytes) (s .payload-length) (s .seals)
 
     -- So the numbers that go by the check have their meaning.
-    failing : OfLength 512 C → (t z : Bool) → passes pack place (decipheredBlock S key pack place C) ≡ t → isZero C ≡ z
-        → Failing S (cond t 0 (cond z 12 8)) key pack place C
-    failing h true z e f = record {
+    by-check-and-zeros : OfLength 512 C → (t z : Bool) → passes pack place (decipheredBlock S key pack place C) ≡ t → isZero C ≡ z
+        → Unopened S (cond t 0 (cond z 12 8)) key pack place C
+    by-check-and-zeros h true z e f = record {
       eight-or-twelve = (⊎-elim (λ n. absurd (omega (arith, n))) (λ n. absurd (omega (arith, n))), λ none. absurd (some-payload h e none));
       twelve = (λ n. absurd (omega (arith, n)), λ none. absurd (some-payload h e none));
     }
-    failing h false true e f = record {
+    by-check-and-zeros h false true e f = record {
       eight-or-twelve = (λ n. no-payload e, λ none. inr refl);
       twelve = (λ n. (no-payload e, zero-only C f), λ none zero. refl);
     }
-    failing h false false e f = record {
+    by-check-and-zeros h false false e f = record {
       eight-or-twelve = (λ n. no-payload e, λ none. inl refl);
       twelve = (λ n. absurd (omega (arith, n)), λ none zero. absurd (false≢true (sym f ∙ zero-told C zero)));
     }
 
-    pub failures : Bytes C → Failures S (numberOf (answerOf S key pack place C)) key pack place C
-    failures b k h l =
+    pub unopened : Bytes C → UnopenedMeaning S (numberOf (answerOf S key pack place C)) key pack place C
+    unopened b k h l =
         let o : Openable S key place C = record { is-key = k; block-length = h; place-limit = l } in
-        rw (number-by-check S key pack place C o _ _ refl refl) (failing (h, b) _ _ refl refl)
+        rw (number-by-check S key pack place C o _ _ refl refl) (by-check-and-zeros (h, b) _ _ refl refl)
 
   -- A number and what is left by it have their meaning.
   meaning : (C : List ℕ) → Bytes C
@@ -299,7 +299,7 @@ module _ (S : Scheme) (key : List ℕ) (pack place : ℕ) (cipher : CipherAt S k
             record { payload-bytes = w .payload-bytes; payload-length = w .payload-length; place-limit = a .within .place-limit } in
             let one : OneBlock S key (payloadOf B) pack place C = rw (w .seals) at (one-block (payloadOf B) (a .within .is-key) limits) in
             rw (left e) one;
-        failures = failures C b;
+        unopened = unopened C b;
       }
 
   -- So an answer by the definition promises what opening promises.

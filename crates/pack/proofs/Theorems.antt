@@ -16,7 +16,7 @@ use Rattle.pack.specs.Sealing.{seal, WithinLimits}
 use Rattle.pack.specs.Opening.{numberOf, valuesOf}
 use Rattle.pack.specs.Inner.{CipherAt}
 use Rattle.pack.specs.Theorems.{IsFound, Pack, Theorems}
-use Rattle.pack.proofs.OneBlock.{deciphered-sealed, answer-sealed, only-sealed, one-block, failures}
+use Rattle.pack.proofs.OneBlock.{deciphered-sealed, answer-sealed, only-sealed, one-block, unopened}
 
 -- A place that is found is within the limits.
 within : {payload : List ℕ} (place : ℕ) (blocks : List ℕ) → Bytes payload → length payload ≤ 496 → IsFound place blocks → WithinLimits payload place
@@ -45,7 +45,7 @@ any-cipher S key k cipher =
       others-in-place = λ payload pack place blocks b h e other apart key′ payload′ pack′ place′.
           let sealed = one-block S key pack place (at pack place) payload k (within place blocks b h e) .one in
           rw (Layout.theorems .others-found place other (seal S key payload pack place) blocks e (sealed .among .0) apart);
-      failures = λ pack place. failures S key pack place (at pack place);
+      unopened = λ pack place. unopened S key pack place (at pack place);
     }
 
 pub theorems : Theorems

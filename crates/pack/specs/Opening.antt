@@ -71,15 +71,15 @@ module _ (S : Scheme) where
   NoPayload key pack place C = (payload : List ℕ) → Bytes payload → length payload ≤ 496 → seal S key payload pack place ≡ C → ⊥
 
   -- What numbers 8 and 12 mean.
-  pub record Failing (number : ℕ) (key : List ℕ) (pack place : ℕ) (C : List ℕ) : Type 0 where
+  pub record Unopened (number : ℕ) (key : List ℕ) (pack place : ℕ) (C : List ℕ) : Type 0 where
     -- 02, Point 4, "no payload seals to the block exactly when it is answered with 8 or blank".
     pub eight-or-twelve : ((number ≡ 8) ⊎ (number ≡ 12) → NoPayload key pack place C) × (NoPayload key pack place C → (number ≡ 8) ⊎ (number ≡ 12))
     -- Blank is answered exactly when, besides, all 512 bytes are zero.
     pub twelve : (number ≡ 12 → NoPayload key pack place C × (C ≡ replicate 512 0)) × (NoPayload key pack place C → C ≡ replicate 512 0 → number ≡ 12)
 
-  -- They mean it "where 1, 7 and 6 do not apply".
-  abbrev pub Failures : (number : ℕ) (key : List ℕ) (pack place : ℕ) (C : List ℕ) → Type 0
-  Failures number key pack place C = S .isKey key ≡ true → length C ≡ 512 → place ≤ 65535 → Failing number key pack place C
+  -- This holds "where 1, 7 and 6 do not apply".
+  abbrev pub UnopenedMeaning : (number : ℕ) (key : List ℕ) (pack place : ℕ) (C : List ℕ) → Type 0
+  UnopenedMeaning number key pack place C = S .isKey key ≡ true → length C ≡ 512 → place ≤ 65535 → Unopened number key pack place C
 
   -- What a number means when C was to be opened and B is left.
   pub record Meaning (number : ℕ) (key : List ℕ) (pack place : ℕ) (C B : List ℕ) : Type 0 where
@@ -87,4 +87,5 @@ module _ (S : Scheme) where
     pub used-limit : number ≡ 0 → used B ≤ 496
     pub sealed : number ≡ 0 → seal S key (payloadOf B) pack place ≡ C
     pub one-block : number ≡ 0 → OneBlock key (payloadOf B) pack place C
-    pub failures : Failures number key pack place C
+    -- Where it was not, by 8 or 12, no payload seals to C.
+    pub unopened : UnopenedMeaning number key pack place C

@@ -10,7 +10,7 @@ use Rattle.strings.specs.Call.{numberOf as numberOfFinding}
 use Rattle.layout.specs.Layout.{plainBlock}
 use Rattle.layout.specs.Finding.{withPart, answerOf as answerOfFinding, found}
 use Rattle.pack.specs.Sealing.{seal, WithinLimits}
-use Rattle.pack.specs.Opening.{numberOf, valuesOf, decipheredBlock, answerOf, opensTo, OneBlock, Failures}
+use Rattle.pack.specs.Opening.{numberOf, valuesOf, decipheredBlock, answerOf, opensTo, OneBlock, UnopenedMeaning}
 
 -- The block of a place is found in a pack of blocks; and the pack once a payload was sealed into that part of it.
 abbrev pub IsFound : (place : ℕ) (blocks : List ℕ) → Type 0
@@ -40,7 +40,7 @@ pub record Pack (S : Scheme) (key : List ℕ) : Type 0 where
       → (other : ℕ) → (other ≡ place → ⊥) → (key′ payload′ : List ℕ) (pack′ place′ : ℕ)
       → opensTo S key′ payload′ pack′ place′ (found other (sealedInPlace S key payload pack place blocks)) ≡ opensTo S key′ payload′ pack′ place′ (found other blocks)
   -- What numbers 8 and 12 mean.
-  pub failures : (pack place : ℕ) (C : List ℕ) → Bytes C → Failures S (numberOf (answerOf S key pack place C)) key pack place C
+  pub unopened : (pack place : ℕ) (C : List ℕ) → Bytes C → UnopenedMeaning S (numberOf (answerOf S key pack place C)) key pack place C
 
 pub record Theorems : Type 0 where
   -- For every scheme that is, under this key, a tweakable cipher of 512 bytes.

@@ -16,7 +16,7 @@ use Rattle.layout.proofs.Parts.{before-or-from}
 use Rattle.pack.specs.Opening.{numberOf as numberOfBlock, answerOf as answerOfBlock}
 use Rattle.pack.specs.declared.opening.Opened.{Opened}
 use Rattle.pack.specs.declared.opening.Opened.the-variants.{Done as BlockOpened, Refused as BlockRefused}
-use Rattle.runs.specs.Opening.{numberOf, valuesOf, next, inTurn, BlockOpens}
+use Rattle.runs.specs.Opening.{numberOf, valuesOf, next, inTurn, BlockOpens, EarlierOpen}
 use Rattle.runs.proofs.Blocks.{below-more}
 use Rattle.runs.specs.declared.opening.RunOpened.{RunOpened}
 use Rattle.runs.specs.declared.opening.RunOpened.the-variants.{Done, Failed}
@@ -31,12 +31,12 @@ module _ (S : Scheme) (key : List ℕ) (pack first : ℕ) (run : List ℕ) where
     pub block : ℕ
     pub why : Refusal
     pub there : block < n
-    pub before : (j : ℕ) → j < block → BlockOpens S key pack first run j
+    pub before : EarlierOpen S key pack first run block
     pub refused : answerOfBlock S key pack (first + block) (part block run) ≡ BlockRefused why
     pub answered : inTurn S key pack first n run ≡ Failed why (first + block)
 
   pub record AllOpen (n : ℕ) : Type 0 where
-    pub each : (i : ℕ) → i < n → BlockOpens S key pack first run i
+    pub each : EarlierOpen S key pack first run n
     pub answered : inTurn S key pack first n run ≡ Done
 
   one-more : (n : ℕ) → AllOpen n → (r : Opened) → answerOfBlock S key pack (first + n) (part n run) ≡ r → AllOpen (suc n) ⊎ FailsAt (suc n)
@@ -65,22 +65,22 @@ module _ (S : Scheme) (key : List ℕ) (pack first : ℕ) (run : List ℕ) where
   refused-shut {why} i e opens = omega (arith, refusal-range why .0, sym (ap numberOfBlock e) ∙ opens)
 
   -- Where all open, the answer says so, and the other way round.
-  pub all-open : (n : ℕ) → ((i : ℕ) → i < n → BlockOpens S key pack first run i) → inTurn S key pack first n run ≡ Done
+  pub all-open : (n : ℕ) → EarlierOpen S key pack first run n → inTurn S key pack first n run ≡ Done
   all-open n each =
       ⊎-elim (λ (all : AllOpen n). all .answered) (λ (f : FailsAt n). absurd (refused-shut (f .block) (f .refused) (each (f .block) (f .there)))) (in-turn n)
 
-  pub each-opens : (n : ℕ) → numberOf (inTurn S key pack first n run) ≡ 0 → (i : ℕ) → i < n → BlockOpens S key pack first run i
+  pub each-opens : (n : ℕ) → numberOf (inTurn S key pack first n run) ≡ 0 → EarlierOpen S key pack first run n
   each-opens n e =
       ⊎-elim (λ (all : AllOpen n). all .each)
       (λ (f : FailsAt n). absurd (omega (arith, refusal-range (f .why) .0, sym (ap numberOf (f .answered)) ∙ e))) (in-turn n)
 
   -- The first block that is shut is the one that is told.
-  pub same-block : (n : ℕ) (f : FailsAt n) (i : ℕ) → (BlockOpens S key pack first run i → ⊥) → ((j : ℕ) → j < i → BlockOpens S key pack first run j) → f .block ≡ i
+  pub same-block : (n : ℕ) (f : FailsAt n) (i : ℕ) → (BlockOpens S key pack first run i → ⊥) → EarlierOpen S key pack first run i → f .block ≡ i
   same-block n f i shut before =
       before-or-from i (f .block) (λ less. absurd (shut (f .before i less)))
       (λ from. ⊎-elim (λ (e : f .block ≡ i). e) (λ (less : f .block < i). absurd (refused-shut (f .block) (f .refused) (before (f .block) less))) (eq-or-lt-of-le from))
 
-  pub first-refused : (n i : ℕ) {why : Refusal} → i < n → ((j : ℕ) → j < i → BlockOpens S key pack first run j)
+  pub first-refused : (n i : ℕ) {why : Refusal} → i < n → EarlierOpen S key pack first run i
       → answerOfBlock S key pack (first + i) (part i run) ≡ BlockRefused why → inTurn S key pack first n run ≡ Failed why (first + i)
   first-refused n i {why} h before e =
       ⊎-elim (λ (all : AllOpen n). absurd (refused-shut i e (all .each i h)))

@@ -1,4 +1,4 @@
--- What an answer of opening a run means: where it was opened, what is left seals to it; where it was not, which block will not open.
+-- What an answer of opening a run means: where it was opened, what is left seals to it; where it was not, which block will not open, and by which number.
 -- Assumes nothing.
 use Prim.Native.Nat.{ℕ, _+_, _*_, _<_}
 use mathlib.Core.Path.{_≡_, refl, sym, ap, _∙_}
@@ -19,12 +19,12 @@ use Rattle.layout.specs.Layout.{used, payloadOf}
 use Rattle.layout.specs.Finding.{blockCount, part}
 use Rattle.layout.proofs.Parts.{is-pack, whole-blocks}
 use Rattle.pack.specs.Sealing.{seal}
-use Rattle.pack.specs.Opening.{numberOf as numberOfBlock, decipheredBlock, Failing as BlockFailing}
+use Rattle.pack.specs.Opening.{numberOf as numberOfBlock, decipheredBlock, Unopened as BlockUnopened}
 use Rattle.pack.specs.Opening.{answerOf as answerOfBlock}
-use Rattle.pack.proofs.OneBlock.{FromPayload, opened-from, failures as block-failures}
+use Rattle.pack.proofs.OneBlock.{FromPayload, opened-from, unopened as block-unopened}
 use Rattle.runs.specs.Run.{blockwise}
 use Rattle.runs.specs.Sealing.{someOver, payloadAt, sealedRun}
-use Rattle.runs.specs.Opening.{numberOf, valuesOf, decipheredRun, usedLengths, inTurn, tests, answerOf, OneRun, BlockOpens, NumberAt, FirstNumber, Failing, Failures, Meaning}
+use Rattle.runs.specs.Opening.{numberOf, valuesOf, decipheredRun, usedLengths, inTurn, tests, answerOf, OneRun, blockNumber, BlockOpens, NumberAt, FirstNumber, Unopened, UnopenedMeaning, Meaning}
 use Rattle.runs.specs.Theorems.{WithinLimits}
 use Rattle.runs.specs.declared.opening.RunOpened.{RunOpened}
 use Rattle.runs.specs.declared.opening.RunOpened.the-variants.{Refused}
@@ -51,7 +51,7 @@ module _ (S : Scheme) (key : List ℕ) (cipher : TweakableCipher 16 512 (S .enci
         let place : first + f .block ≡ first + i = ap (λ (l : List ℕ). getD l 0 0) (sym (ap valuesOf told) ∙ e .1) in
         let same : f .block ≡ i = omega (arith, place) in
         let number : refusalNumber (f .why) ≡ n = sym (ap numberOf told) ∙ e .0 in
-        let refused : numberOfBlock (answerOfBlock S key pack (first + i) (part i run)) ≡ n = rw same at (ap numberOfBlock (f .refused) ∙ number) in
+        let refused : blockNumber S key pack first run i ≡ n = rw same at (ap numberOfBlock (f .refused) ∙ number) in
         (refused, rw same at (f .before))) (in-turn S key pack first run count)
 
     number-answered : (n : ℕ) → 0 < n → FirstNumber S n key pack first run i → NumberAt (answerOf S key pack first lengths run) n first i
@@ -65,13 +65,13 @@ module _ (S : Scheme) (key : List ℕ) (cipher : TweakableCipher 16 512 (S .enci
         let number : refusalNumber (f .why) ≡ n = sym (ap numberOfBlock (f .refused)) ∙ rw same (e .0) in
         (ap numberOf told ∙ number, ap valuesOf told ∙ ap (λ (k : ℕ). (first + k) ∷ []) same)) (in-turn S key pack first run count)
 
-    of-block : BlockFailing S (numberOfBlock (answerOfBlock S key pack (first + i) (part i run))) key pack (first + i) (part i run)
+    of-block : BlockUnopened S (blockNumber S key pack first run i) key pack (first + i) (part i run)
     of-block =
         let p = part-of-length i run b (omega (arith, h)) in
-        block-failures S key pack (first + i) (at S key cipher pack first (first + i)) (part i run) (p .1) (a .is-key) (p .0) (omega (arith, in-range S key first lengths run a .places, h))
+        block-unopened S key pack (first + i) (at S key cipher pack first (first + i)) (part i run) (p .1) (a .is-key) (p .0) (omega (arith, in-range S key first lengths run a .places, h))
 
-    failing : Failing S (answerOf S key pack first lengths run) key pack first run i
-    failing =
+    at-block : Unopened S (answerOf S key pack first lengths run) key pack first run i
+    at-block =
         let answer = answerOf S key pack first lengths run in
         let told8 = number-told 8 (omega arith) in
         let told12 = number-told 12 (omega arith) in
@@ -90,10 +90,10 @@ module _ (S : Scheme) (key : List ℕ) (cipher : TweakableCipher 16 512 (S .enci
           );
         }
 
-  pub failures : (lengths : List ℕ) → Failures S (answerOf S key pack first lengths run) key pack first lengths run
-  failures lengths k whole list last i h =
+  pub unopened : (lengths : List ℕ) → UnopenedMeaning S (answerOf S key pack first lengths run) key pack first lengths run
+  unopened lengths k whole list last i h =
       let a : Admitted S key first lengths run = record { is-key = k; is-run = whole; list-length = list; last-place = last } in
-      failing lengths a i h
+      at-block lengths a i h
 
   -- ---- a run that was opened
 
@@ -165,7 +165,7 @@ module _ (S : Scheme) (key : List ℕ) (cipher : TweakableCipher 16 512 (S .enci
     used-limit = λ e. rw e (used-limit lengths e);
     sealed = λ e. rw e (sealed lengths e);
     one-run = λ e. rw e (one lengths e);
-    failures = failures lengths;
+    unopened = unopened lengths;
   }
 
   pub means : (lengths : List ℕ) {answer : RunOpened} {lengths′ B : List ℕ} → answer ≡ answerOf S key pack first lengths run
@@ -185,7 +185,7 @@ module _ (S : Scheme) (key : List ℕ) (pack first : ℕ) (lengths run : List �
         used-limit = λ z. absurd (some z);
         sealed = λ z. absurd (some z);
         one-run = λ z. absurd (some z);
-        failures = λ k whole list last i h.
+        unopened = λ k whole list last i h.
             let a : Admitted S key first lengths run = record { is-key = k; is-run = whole; list-length = list; last-place = last } in
             absurd (some (ap numberOfTests (sym e ∙ no-test-holds S key first lengths run a)));
       }

@@ -26,7 +26,7 @@ use Rattle.runs.specs.Theorems.{sealingCall, openingCall, WithinLimits, 
 use Rattle.runs.proofs.Blocks.{length-blockwise, part-blockwise, blockwise-same}
 use Rattle.runs.proofs.Limits.{sealable, in-range}
 use Rattle.runs.proofs.Lists.{none-over}
-use Rattle.runs.proofs.Meaning.{known, opens, failures}
+use Rattle.runs.proofs.Meaning.{known, opens, unopened}
 use Rattle.runs.proofs.OneRun.{getD-lengths, one-run as one-of-payloads}
 use Rattle.runs.proofs.Orders.{in-any-order}
 use Rattle.runs.proofs.Sizes.{sealed-length, deciphered-of-length, deciphered-part, used-part}
@@ -116,7 +116,7 @@ any-cipher S key k cipher = record {
   opened-one-by-one = λ pack first lengths run b e. opened-one-by-one S key k cipher pack first lengths run b e;
   others-open = λ pack first lengths run b e i block h long hb e′ j l apart. rw (e, e′) (others-open S key k cipher pack first run b i block h long hb j l apart);
   one-run = one-run S key k cipher;
-  failures = λ pack first lengths run b. failures S key cipher pack first run b lengths;
+  unopened = λ pack first lengths run b. unopened S key cipher pack first run b lengths;
 }
 
 laid-out : (n : ℕ) (payload : ℕ → List ℕ) (first : ℕ) → WithinLimits n payload first → Holds n payload (laidOut n payload)

@@ -110,24 +110,26 @@ module _ (S : Scheme) where
   abbrev pub OneRun : (key : List ℕ) (n : ℕ) (payload : ℕ → List ℕ) (pack first : ℕ) (C : List ℕ) → Type 0
   OneRun key n payload pack first C = OneString (512 * n) (opensTo key n payload pack first) C
 
-  -- The one-block call opens block i.
+  -- The number that the one-block call answers for block i; that it opens it; and that it opens each block before block i.
+  abbrev pub blockNumber : (key : List ℕ) (pack first : ℕ) (run : List ℕ) (i : ℕ) → ℕ
+  blockNumber key pack first run i = numberOfBlock (answerOfBlock S key pack (first + i) (part i run))
+
   abbrev pub BlockOpens : (key : List ℕ) (pack first : ℕ) (run : List ℕ) (i : ℕ) → Type 0
-  BlockOpens key pack first run i = numberOfBlock (answerOfBlock S key pack (first + i) (part i run)) ≡ 0
+  BlockOpens key pack first run i = blockNumber key pack first run i ≡ 0
 
-  -- Each block before block i opens.
-  abbrev pub OpensUpTo : (key : List ℕ) (pack first : ℕ) (run : List ℕ) (i : ℕ) → Type 0
-  OpensUpTo key pack first run i = (j : ℕ) → j < i → BlockOpens key pack first run j
+  abbrev pub EarlierOpen : (key : List ℕ) (pack first : ℕ) (run : List ℕ) (i : ℕ) → Type 0
+  EarlierOpen key pack first run i = (j : ℕ) → j < i → BlockOpens key pack first run j
 
-  -- Each block before block i opens, and the one-block call answers the number n for block i.
+  -- Each block before block i opens, and block i is answered with n.
   abbrev pub FirstNumber : (n : ℕ) (key : List ℕ) (pack first : ℕ) (run : List ℕ) (i : ℕ) → Type 0
-  FirstNumber n key pack first run i = (numberOfBlock (answerOfBlock S key pack (first + i) (part i run)) ≡ n) × OpensUpTo key pack first run i
+  FirstNumber n key pack first run i = (blockNumber key pack first run i ≡ n) × EarlierOpen key pack first run i
 
   -- Each block before block i opens, and no payload seals to block i.
   abbrev pub FirstToFail : (key : List ℕ) (pack first : ℕ) (run : List ℕ) (i : ℕ) → Type 0
-  FirstToFail key pack first run i = NoPayload S key pack (first + i) (part i run) × OpensUpTo key pack first run i
+  FirstToFail key pack first run i = NoPayload S key pack (first + i) (part i run) × EarlierOpen key pack first run i
 
   -- 02, "the answer adds the smallest failing place": what an answer with the place of block i means.
-  pub record Failing (answer : RunOpened) (key : List ℕ) (pack first : ℕ) (run : List ℕ) (i : ℕ) : Type 0 where
+  pub record Unopened (answer : RunOpened) (key : List ℕ) (pack first : ℕ) (run : List ℕ) (i : ℕ) : Type 0 where
     -- 02, Point 4, "a run gives the number of its first block that will not open".
     pub first-number : (n : ℕ) → 0 < n
         → (NumberAt answer n first i → FirstNumber n key pack first run i) × (FirstNumber n key pack first run i → NumberAt answer n first i)
@@ -138,11 +140,11 @@ module _ (S : Scheme) where
     pub twelve : (NumberAt answer 12 first i → FirstToFail key pack first run i × (part i run ≡ replicate 512 0))
         × (FirstToFail key pack first run i → part i run ≡ replicate 512 0 → NumberAt answer 12 first i)
 
-  -- It means it for each block, where 1, 10, 11 and 6 do not apply.
-  abbrev pub Failures : (answer : RunOpened) (key : List ℕ) (pack first : ℕ) (lengths run : List ℕ) → Type 0
-  Failures answer key pack first lengths run =
+  -- This holds for each block i of the run, where 1, 10, 11 and 6 do not apply.
+  abbrev pub UnopenedMeaning : (answer : RunOpened) (key : List ℕ) (pack first : ℕ) (lengths run : List ℕ) → Type 0
+  UnopenedMeaning answer key pack first lengths run =
       S .isKey key ≡ true → isPack run ≡ true → length lengths ≡ blockCount run → lastPlace first run ≤ 65535 → (i : ℕ) → i < blockCount run
-      → Failing answer key pack first run i
+      → Unopened answer key pack first run i
 
   -- What an answer means when the list and C were lent, and `lengths′` and B are left.
   pub record Meaning (answer : RunOpened) (key : List ℕ) (pack first : ℕ) (lengths C lengths′ B : List ℕ) : Type 0 where
@@ -150,4 +152,5 @@ module _ (S : Scheme) where
     pub used-limit : numberOf answer ≡ 0 → someOver 496 lengths′ ≡ false
     pub sealed : numberOf answer ≡ 0 → sealedRun S key pack first lengths′ B ≡ C
     pub one-run : numberOf answer ≡ 0 → OneRun key (blockCount C) (payloadAt lengths′ B) pack first C
-    pub failures : Failures answer key pack first lengths C
+    -- Where it was not, by the number of a block, that is the first that will not open.
+    pub unopened : UnopenedMeaning answer key pack first lengths C

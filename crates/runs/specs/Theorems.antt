@@ -12,7 +12,7 @@ use Rattle.pack.specs.Sealing.{seal, answerOf as answerOfBlockSealing}
 use Rattle.pack.specs.Opening.{numberOf as numberOfBlock, valuesOf as valuesOfBlock, decipheredBlock, answerOf as answerOfBlock}
 use Rattle.runs.specs.Run.{blockwise, oneByOne, OrderOf}
 use Rattle.runs.specs.Sealing.{payloadAt, sealedRun, answerOf as answerOfSealing}
-use Rattle.runs.specs.Opening.{numberOf, decipheredRun, usedLengths, answerOf, runLeft, listLeft, lengthsOf, OneRun, Failures}
+use Rattle.runs.specs.Opening.{numberOf, decipheredRun, usedLengths, answerOf, runLeft, listLeft, lengthsOf, OneRun, UnopenedMeaning}
 
 -- What the one-block calls for block i leave of it.
 abbrev pub sealingCall : (S : Scheme) (key : List ℕ) (pack first : ℕ) (lengths : List ℕ) (i : ℕ) (B : List ℕ) → List ℕ
@@ -65,8 +65,8 @@ pub record Runs (S : Scheme) (key : List ℕ) : Type 0 where
   pub one-run : (n : ℕ) (payload : ℕ → List ℕ) (pack first : ℕ) → WithinLimits n payload first → (run : List ℕ) → Holds n payload run
       → OneRun S key n payload pack first (sealedRun S key pack first (lengthsOf payload n) run)
   -- What a number with a place means, and numbers 8 and 12.
-  pub failures : (pack first : ℕ) (lengths run : List ℕ) → Bytes run
-      → Failures S (answerOf S key pack first lengths run) key pack first lengths run
+  pub unopened : (pack first : ℕ) (lengths run : List ℕ) → Bytes run
+      → UnopenedMeaning S (answerOf S key pack first lengths run) key pack first lengths run
 
 pub record Theorems : Type 0 where
   -- There is a run that holds n payloads within the limits.

@@ -12,7 +12,7 @@ use Rattle.primitives.specs.declared.aes.ExpandedKey.{ExpandedKey}
 use Rattle.hch.specs.Expanded.{hchUnder}
 use Rattle.layout.specs.Finding.{blockCount, part}
 use Rattle.pack.specs.Opening.{numberOf as numberOfBlock, decipheredBlock, answerOf as answerOfBlock}
-use Rattle.runs.specs.Opening.{BlockOpens}
+use Rattle.runs.specs.Opening.{BlockOpens, EarlierOpen}
 use Rattle.runs.specs.Inner.{CipherUnder, walked}
 use Rattle.runs.proofs.Blocks.{walked-none, walked-block, turn, part-same, below-more}
 use Rattle.runs.proofs.Answers.{all-open, first-refused, left-back}
@@ -33,7 +33,7 @@ module _ (expanded : ExpandedKey) (pack first : ℕ) (run : List ℕ) (cipher : 
 
 abbrev Inv-loop : tie.InvT-loop
 Inv-loop expanded pack first run₀ i₀ run i =
-    (run ≡ walked (one expanded pack first) run₀ i) × ((j : ℕ) → j < i → BlockOpens (hchUnder expanded) [] pack first run₀ j)
+    (run ≡ walked (one expanded pack first) run₀ i) × EarlierOpen (hchUnder expanded) [] pack first run₀ i
     × (length run ≡ length run₀) × (512 * i ≤ length run)
 
 abbrev μ-loop : tie.MeasureT-loop
