@@ -4,6 +4,8 @@
 #include "good.h"
 #include "groups.h"
 #include "report.h"
+#include "table.h"
+#include <inttypes.h>
 #include <string.h>
 
 static const uint8_t zeros[SIZE];
@@ -17,11 +19,13 @@ static void hold_block(call c, const uint8_t block[SIZE], uint32_t number, const
     c.after = after;
     c.number = number;
     hold(&c);
+    hold_at(&c, (position)5);
     c.name = OPEN_RUN;
     c.list = (slice){(const uint8_t *)&any_number, sizeof any_number};
     c.list_after = (const uint8_t *)(number == 0 ? &none : &any_number);
     c.failed_place = c.place;
     hold(&c);
+    hold_at(&c, (position)5);
 }
 
 static void hold_failing(call c, const uint8_t block[SIZE], uint32_t number) { hold_block(c, block, number, block); }
@@ -47,33 +51,60 @@ static void hold_keys(slice key) {
     }
 }
 
-/* One bit in each byte of the block, from the highest of the first byte to the lowest of the last; and one bit in all
-   bytes, which are zero when they are added up in 8 bits, and by exclusive or. */
+/* Each bit of the block alone: those with an even number under the short key, and the others under the long one. */
 static void hold_bits(call c) {
     uint8_t block[SIZE];
-    for (size_t i = 0; i < SIZE; i++) {
-        TRYING("zeros but for a bit of byte %zu", i);
+    for (size_t i = c.key.length == key_lengths[0] ? 0 : 1; i < 8 * SIZE; i += 2) {
+        TRYING("zeros but for bit %zu of byte %zu", i % 8, i / 8);
         memset(block, 0, SIZE);
-        block[i] = (uint8_t)(0x80 >> i % 8);
+        block[i / 8] = (uint8_t)(1 << i % 8);
         hold_failing(c, block, 8);
     }
+}
+
+/* One bit in all bytes, which are zero when they are added up in 8 bits, and by exclusive or; and the highest bits of
+   two words, which are zero when words of 16, 32 or 64 bits are added up, big-endian and then little-endian. */
+static void hold_sums(call c) {
+    uint8_t block[SIZE];
     for (int i = 0; i < 8; i++) {
         TRYING("bit %d alone in all bytes", i);
         memset(block, 1 << i, SIZE);
         hold_failing(c, block, 8);
     }
+    for (size_t i = 0; i < 8; i += 7) {
+        TRYING("zeros but for bit 7 of the bytes %zu and %zu", i, i + 504);
+        memset(block, 0, SIZE);
+        block[i] = block[i + 504] = 0x80;
+        hold_failing(c, block, 8);
+    }
+}
+
+/* What zeros are enciphered or deciphered to, as any other data. */
+static void make_from_zeros(function name, slice key, uint8_t place, uint8_t block[SIZE]) {
+    uint8_t tweak[16] = {0};
+    call c = {.name = name, .key = key, .tweak = {tweak, 16}, .data = {block, SIZE}};
+    tweak[15] = place;
+    memset(block, 0, SIZE);
+    uint32_t number = answer(&c);
+    if (number != 0) DIFFERS("%s answers %" PRIu32 " in the place of 0", function_names[name], number);
+}
+
+static void hold_deciphering(slice key) {
+    uint8_t block[SIZE];
+    call back = {.name = ENCIPHER, .key = key, .tweak = {zeros, 16}, .data = {block, SIZE}, .after = zeros};
+    TRYING("zeros deciphered, and enciphered again");
+    make_from_zeros(DECIPHER, key, 0, block);
+    hold(&back);
 }
 
 /* What deciphers to zeros is not blank. For pack 0 and place 0 it is the block of an empty payload, which opens, and
    for another place it fails its check. */
 static void hold_deciphering_to_zeros(slice key) {
-    uint8_t block[SIZE], tweak[16] = {0};
+    uint8_t block[SIZE];
     for (uint8_t place = 0; place < 2; place++) {
         TRYING("a block that deciphers to zeros, for place %d", place);
         call c = {.key = key, .place = place};
-        tweak[15] = place;
-        memset(block, 0, SIZE);
-        if (boards.encipher(key.bytes, key.length, tweak, 16, block, SIZE) != 0) DIFFERS("it is not enciphered");
+        make_from_zeros(ENCIPHER, key, place, block);
         if (place == 0) hold_block(c, block, 0, zeros);
         else hold_failing(c, block, 8);
     }
@@ -117,11 +148,13 @@ static void hold_blank(slice key) {
     call good[FUNCTIONS], c = {.key = key, .pack = 1, .place = 2};
     make_good(good, key);
     hold_zeros(key);
-    hold_bits(c);
+    hold_sums(c);
+    hold_deciphering(key);
     hold_deciphering_to_zeros(key);
     hold_new_file(good, 0);
     hold_new_file(good, 1);
     hold_keys(key);
+    hold_bits(c);
 }
 
 void blank(void) {

@@ -234,10 +234,8 @@ def refusals(rng, k):
         call = key, pack, place, (used,) * count, (2 * run)[:length]
         yield sealing_run(*call)
         yield opening_run(*call)
-    choices = [(block, with_bit(block, 77, 1), bytes(SIZE))
-               for block in runs.parts(run)]
-    for blocks in itertools.product(*choices):
-        yield opening_run(good, 1, 3, (0, 0), b"".join(blocks))
+    for numbers in itertools.product((0, 8, 12), repeat=2):
+        yield opening_run(good, 1, 3, (0, 0), runs.spoil(run, numbers))
 
 
 def stored_lines(rng):

@@ -24,8 +24,8 @@ static const size_t keys_tried[] = {0, 1, 15, 16, 17, 24, 31, 32, 33, 64};
 static int sealed_for(size_t key_length) { return key_length == key_lengths[1]; }
 
 /* Makes the call if it is to be refused: what good calls leave is for the cases. */
-static void hold_refused(call *c, int damaged) {
-    c->number = first(c, damaged);
+static void hold_refused(call *c, int failing) {
+    c->number = first(c, failing);
     c->after = c->data.bytes;
     c->list_after = c->list.bytes;
     if (c->number != 0) hold(c);
@@ -50,17 +50,17 @@ static void spoil(call *c, uint32_t number) {
 
 /* A call that is good but for these two numbers, which may be the same one; number 1 by each of the lengths above. */
 static void hold_two(const call *good, uint32_t a, uint32_t b) {
-    int damaged = says_failed(a) || says_failed(b);
+    int failing = says_failed(a) || says_failed(b);
     call c = *good;
     spoil(&c, a);
     if (b != a) spoil(&c, b);
     c.failed_place = c.place;
     TRYING("numbers %" PRIu32 " and %" PRIu32 " at once", a, b);
-    if (!applies(a, &c, damaged) || !applies(b, &c, damaged)) DIFFERS("%s was not tried so", function_names[c.name]);
-    hold_refused(&c, damaged);
+    if (!applies(a, &c, failing) || !applies(b, &c, failing)) DIFFERS("%s was not tried so", function_names[c.name]);
+    hold_refused(&c, failing);
     for (size_t i = 0; i < COUNT(keys_tried) && (a == 1 || b == 1); i++) {
         c.key.length = keys_tried[i];
-        hold_refused(&c, damaged);
+        hold_refused(&c, failing);
     }
 }
 
@@ -133,14 +133,15 @@ static void refuse_find(void) {
     }
 }
 
-/* Runs and lists of lengths that fit each other and of others, the runs sealed or of zeros. The group of runs has all
-   lengths of runs. */
+/* Runs and lists of lengths that fit each other and of others, the runs that are opened sealed or of zeros. The group
+   of runs has all lengths of runs. */
 static void refuse_run(function name) {
     static const size_t lengths[] = {0, 511, 512, 513, 1024, 65536, 66048};
     static const size_t counts[] = {0, 1, 2, 128, 129};
     static const uint32_t from[] = {3, 65408, 65409, 65535, 65536, 0xffffff80, 0xffffffff};
+    size_t of_a_kind = COUNT(keys_tried) * COUNT(lengths) * COUNT(counts) * COUNT(from) * COUNT(lists);
     call c = {.name = name, .key = key_of(0), .pack = 1};
-    for (size_t i = 0; i < COUNT(keys_tried) * COUNT(lengths) * COUNT(counts) * COUNT(from) * COUNT(lists) * 2; i++) {
+    for (size_t i = 0; i < of_a_kind * (name == OPEN_RUN ? 2 : 1); i++) {
         size_t rest = i;
         c.key.length = keys_tried[take(&rest, COUNT(keys_tried))];
         c.data.length = lengths[take(&rest, COUNT(lengths))];

@@ -44,7 +44,7 @@ static int is_blank(const call *c) {
     return all_zero(c->data.bytes + at, length < 512 ? length : 512);
 }
 
-int applies(uint32_t number, const call *c, int damaged) {
+int applies(uint32_t number, const call *c, int failing) {
     switch (number) {
     case 1: return !is_key(c->key.length);
     case 2: return c->tweak.length != 16;
@@ -53,17 +53,17 @@ int applies(uint32_t number, const call *c, int damaged) {
     case 5: return payload_too_long(c);
     case 6: return place_too_high(c);
     case 7: return c->data.length != 512;
-    case 8: return damaged && !is_blank(c);
+    case 8: return failing && !is_blank(c);
     case 10: return c->data.length < 512 || c->data.length > 128 * 512 || c->data.length % 512 != 0;
     case 11: return c->list.length / 2 + c->more != c->data.length / 512;
-    case 12: return damaged && is_blank(c);
+    case 12: return failing && is_blank(c);
     default: return 0;
     }
 }
 
-uint32_t first(const call *c, int damaged) {
+uint32_t first(const call *c, int failing) {
     for (int i = 0; i < LOOKS; i++) {
-        if (applies(looks[c->name][i], c, damaged)) return looks[c->name][i];
+        if (applies(looks[c->name][i], c, failing)) return looks[c->name][i];
     }
     return 0;
 }

@@ -25,11 +25,11 @@ int says_failed(uint32_t number);
 
 int all_zero(const uint8_t *bytes, size_t length);
 
-/* Whether the condition of this number holds; a damaged block fails its check, and a damaged run has such a block, the
+/* Whether the condition of this number holds; failing is a block that fails its check, and a run with such a block, the
    first of them at the place that failed. */
-int applies(uint32_t number, const call *c, int damaged);
+int applies(uint32_t number, const call *c, int failing);
 
 /* The number that the call has to answer: the first that applies, or 0. */
-uint32_t first(const call *c, int damaged);
+uint32_t first(const call *c, int failing);
 
 #endif

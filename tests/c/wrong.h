@@ -20,8 +20,8 @@ void expect_report(const library *l, void (*group)(void), const char *words, con
 /* The mistakes that can be made with runs, in wrong_runs.c; the last has no name. */
 extern const mistake run_mistakes[];
 
-/* Those that each function can make, in wrong_calls.c: what it takes for a key, the order of its refusals, and, where
-   it opens, what it says and leaves of a block that fails its check. */
+/* Those that each function can make, in wrong_calls.c: what it takes for a key, the order of its refusals, and what it
+   says and leaves of a block that fails its check, or of zeros. */
 void wrong_keys(void);
 void wrong_orders(void);
 void wrong_blanks(void);

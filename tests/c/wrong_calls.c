@@ -1,5 +1,5 @@
 /* Wrong libraries, in which any one of the functions is wrong in the same way: in what it takes for its key, in the
-   order of its refusals, or in what it says and leaves of a block that fails its check. */
+   order of its refusals, or in what it says and leaves of a block that fails its check, or of zeros. */
 #include "groups.h"
 #include "report.h"
 #include "table.h"
@@ -161,32 +161,38 @@ void wrong_orders(void) {
 
 typedef struct {
     const char *name;
-    size_t from, to;        /* of a block that fails, the bytes that are looked at, */
-    uint8_t bits;           /* these bits of each of them, */
-    char by;                /* put together by this operator; */
+    size_t from, to;        /* in these bytes of a block that fails, */
+    uint8_t unseen;         /* these bits are not looked at; */
+    char by;                /* the others are put together by this operator, */
+    size_t word;            /* in little-endian words of so many bytes; */
     uint32_t zeros, others; /* and the answers if that is zero, and if not, */
     size_t key;             /* under a key of this length, or 0 for both */
     const char *words;
 } blank_mistake;
 
 static const blank_mistake blank_mistakes[] = {
-    {"has 8 for zeros", 0, 512, 0xff, '|', 8, 8, 0, "answers 8 in the place of 12"},
-    {"has 8 for zeros under a key of 16", 0, 512, 0xff, '|', 8, 8, 16, "answers 8 in the place of 12"},
-    {"has 8 for zeros under a key of 32", 0, 512, 0xff, '|', 8, 8, 32, "answers 8 in the place of 12"},
-    {"has 0 for zeros", 0, 512, 0xff, '|', 0, 8, 0, "answers 0 in the place of 12"},
-    {"has 12 for all that fails", 0, 512, 0xff, '|', 12, 12, 0, "answers 12 in the place of 8"},
-    {"has 8 for 12 and 12 for 8", 0, 512, 0xff, '|', 8, 12, 0, "answers 8 in the place of 12"},
-    {"looks at the first byte alone", 0, 1, 0xff, '|', 12, 8, 0, "but for a bit of byte 1:"},
-    {"looks at the last byte alone", 511, 512, 0xff, '|', 12, 8, 0, "but for a bit of byte 0:"},
-    {"does not look at the first byte", 1, 512, 0xff, '|', 12, 8, 0, "but for a bit of byte 0:"},
-    {"does not look at the last byte", 0, 511, 0xff, '|', 12, 8, 0, "but for a bit of byte 511:"},
-    {"looks at the first 256 bytes alone", 0, 256, 0xff, '|', 12, 8, 0, "but for a bit of byte 256:"},
-    {"looks at a payload's bytes alone", 0, 496, 0xff, '|', 12, 8, 0, "but for a bit of byte 496:"},
-    {"does not look at a payload's bytes", 496, 512, 0xff, '|', 12, 8, 0, "but for a bit of byte 0:"},
-    {"does not look at a byte's highest bit", 0, 512, 0x7f, '|', 12, 8, 0, "but for a bit of byte 0:"},
-    {"does not look at a byte's lowest bit", 0, 512, 0xfe, '|', 12, 8, 0, "but for a bit of byte 7:"},
-    {"adds the bytes up in 8 bits", 0, 512, 0xff, '+', 12, 8, 0, "bit 0 alone in all bytes"},
-    {"takes the exclusive or of the bytes", 0, 512, 0xff, '^', 12, 8, 0, "bit 0 alone in all bytes"},
+    {"has 8 for zeros", 0, 0, 0, '|', 1, 8, 8, 0, "answers 8 in the place of 12"},
+    {"has 8 for zeros under a key of 16", 0, 0, 0, '|', 1, 8, 8, 16, "answers 8 in the place of 12"},
+    {"has 8 for zeros under a key of 32", 0, 0, 0, '|', 1, 8, 8, 32, "answers 8 in the place of 12"},
+    {"has 0 for zeros", 0, 0, 0, '|', 1, 0, 8, 0, "answers 0 in the place of 12"},
+    {"has 12 for all that fails", 0, 0, 0, '|', 1, 12, 12, 0, "answers 12 in the place of 8"},
+    {"has 8 for 12 and 12 for 8", 0, 0, 0, '|', 1, 8, 12, 0, "answers 8 in the place of 12"},
+    {"looks at the first byte alone", 1, 512, 0xff, '|', 1, 12, 8, 0, "bit 7 of the bytes 7 and 511:"},
+    {"looks at the last byte alone", 0, 511, 0xff, '|', 1, 12, 8, 0, "bit 7 of the bytes 0 and 504:"},
+    {"does not look at the first byte", 0, 1, 0xff, '|', 1, 12, 8, 0, "but for bit 0 of byte 0:"},
+    {"does not look at the last byte", 511, 512, 0xff, '|', 1, 12, 8, 0, "but for bit 0 of byte 511:"},
+    {"looks at the first 256 bytes alone", 256, 512, 0xff, '|', 1, 12, 8, 0, "but for bit 0 of byte 256:"},
+    {"looks at a payload's bytes alone", 496, 512, 0xff, '|', 1, 12, 8, 0, "but for bit 0 of byte 496:"},
+    {"does not look at a payload's bytes", 0, 496, 0xff, '|', 1, 12, 8, 0, "but for bit 0 of byte 0:"},
+    {"does not look at a byte's highest bit", 0, 512, 0x80, '|', 1, 12, 8, 0, "bit 7 alone in all bytes"},
+    {"does not look at a byte's lowest bit", 0, 512, 0x01, '|', 1, 12, 8, 0, "bit 0 alone in all bytes"},
+    {"does not look at bit 0 of byte 7", 7, 8, 0x01, '|', 1, 12, 8, 0, "but for bit 0 of byte 7:"},
+    {"does not look at bit 7 of byte 300", 300, 301, 0x80, '|', 1, 12, 8, 0, "but for bit 7 of byte 300:"},
+    {"adds the bytes up in 8 bits", 0, 0, 0, '+', 1, 12, 8, 0, "bit 0 alone in all bytes"},
+    {"adds up words of 16 bits", 0, 0, 0, '+', 2, 12, 8, 0, "bit 7 of the bytes 7 and 511:"},
+    {"adds up words of 32 bits", 0, 0, 0, '+', 4, 12, 8, 0, "bit 7 of the bytes 7 and 511:"},
+    {"adds up words of 64 bits", 0, 0, 0, '+', 8, 12, 8, 0, "bit 7 of the bytes 7 and 511:"},
+    {"takes the exclusive or of the bytes", 0, 0, 0, '^', 1, 12, 8, 0, "bit 0 alone in all bytes"},
 };
 
 static const blank_mistake *telling;
@@ -198,15 +204,23 @@ static uint8_t *told_block(const call *c, uint32_t number) {
 }
 
 static uint32_t by_some_bits(call *c) {
-    uint8_t all = 0;
+    uint64_t all = 0;
     uint32_t number = answer_of(&right, c);
     const uint8_t *block = told_block(c, number);
     if (!says_failed(number) || (telling->key != 0 && telling->key != c->key.length)) return number;
-    for (size_t i = telling->from; i < telling->to; i++) {
-        uint8_t byte = block[i] & telling->bits;
-        all = (uint8_t)(telling->by == '|' ? all | byte : telling->by == '^' ? all ^ byte : all + byte);
+    for (size_t i = 0; i < 512; i++) {
+        int unseen = i >= telling->from && i < telling->to ? telling->unseen : 0;
+        uint64_t part = (uint64_t)(block[i] & ~unseen) << 8 * (i % telling->word);
+        all = telling->by == '|' ? all | part : telling->by == '^' ? all ^ part : all + part;
     }
-    return all == 0 ? telling->zeros : telling->others;
+    return all << (64 - 8 * telling->word) == 0 ? telling->zeros : telling->others;
+}
+
+/* As where the search begins at an address that is a multiple of 8, at or before the block's. */
+static uint32_t blank_when_aligned(call *c) {
+    uint32_t number = answer_of(&right, c);
+    const uint8_t *block = told_block(c, number);
+    return !says_failed(number) ? number : all_zero(block - (uintptr_t)block % 8, 512) ? 12 : 8;
 }
 
 /* As where the block is looked at after it was deciphered: of those that open, one is all zeros. */
@@ -250,6 +264,7 @@ static const struct {
     uint32_t (*wrongly)(call *c);
     const char *words;
 } failed_mistakes[] = {
+    {"takes the block for aligned", blank_when_aligned, "lent at an odd address: answers 8 in the place of 12"},
     {"has 12 where it opened zeros", blank_when_opened, "answers 12 in the place of 0"},
     {"has 12 where it deciphered zeros", blank_when_deciphered, "answers 12 in the place of 8"},
     {"leaves a blank block deciphered", decipher_blank, "byte 0 of the"},
@@ -257,12 +272,19 @@ static const struct {
     {"clears a block that fails", clear_failed, "byte 0 of the"},
 };
 
+/* Of a function that opens nothing, and so has no number 12. */
+static uint32_t blank_data(call *c) {
+    return c->data.length == 512 && all_zero(c->data.bytes, 512) ? 12 : answer_of(&right, c);
+}
+
+static void expect_of(function f, const char *name, const char *words) {
+    TRYING("a library of which %s %s", function_names[f], name);
+    expect_report(&wrong_in[f], blank, words, function_names[f]);
+}
+
 static void expect_of_openers(const char *name, const char *words) {
-    static const function openers[] = {OPEN, OPEN_RUN};
-    for (size_t i = 0; i < COUNT(openers); i++) {
-        TRYING("a library of which %s %s", function_names[openers[i]], name);
-        expect_report(&wrong_in[openers[i]], blank, words, function_names[openers[i]]);
-    }
+    expect_of(OPEN, name, words);
+    expect_of(OPEN_RUN, name, words);
 }
 
 void wrong_blanks(void) {
@@ -275,4 +297,6 @@ void wrong_blanks(void) {
         wrongly = failed_mistakes[i].wrongly;
         expect_of_openers(failed_mistakes[i].name, failed_mistakes[i].words);
     }
+    wrongly = blank_data;
+    for (function f = ENCIPHER; f <= SEAL; f++) expect_of(f, "has 12 for zeros", "answers 12 in the place of 0");
 }

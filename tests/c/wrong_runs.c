@@ -256,7 +256,7 @@ static uint32_t number_of_blank(OPEN_CALL) {
 
 /* The block that failed, and its place. */
 
-/* Where the answer is the first number, the last block that has the second one is told in the place of the first. */
+/* Where the answer is instead_of, the last block that answers wanted is told, with that number. */
 static uint32_t told_by_last(uint32_t instead_of, uint32_t wanted, OPEN_CALL) {
     uint8_t block[SIZE];
     uint32_t number = right.open_run(OPEN), told = number;

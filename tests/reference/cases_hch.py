@@ -75,6 +75,8 @@ def length_cases(key_length):
 
 
 def long_cases(key_length):
+    """Lengths about 512 bytes, and up to the most. Zeros that are as long as a
+    block are data as any other here."""
     draw = byte_drawer("hch: long", key_length)
     for length in (511, 512, 513):
         yield from pair("he", "hd", draw(key_length), draw(16), draw(length))
@@ -84,6 +86,7 @@ def long_cases(key_length):
     yield from pair("he", "hd", draw(key_length), draw(16), draw(MOST))
     yield from pair("hd", "he", b"\xff" * key_length, ZERO_BLOCK,
                     b"\xff" * MOST)
+    yield from both(draw(key_length), draw(16), bytes(512))
 
 
 def lost_file_cases(key_length):

@@ -217,7 +217,9 @@ def almost_blank(draw):
         yield with_bytes(nonzero(draw(SIZE)), at, bytes(256))
     yield with_bytes(zeros, 255, b"\x55\x55")
     yield with_bytes(zeros, 255, b"\x01\xff")
-    yield with_bit(with_bit(zeros, 0, 0x80), 504, 0x80)
+    # The highest bits of two words, big-endian and little-endian.
+    for at in (0, 7):
+        yield with_bit(with_bit(zeros, at, 0x80), at + 504, 0x80)
     yield 32 * draw(16)
 
 

@@ -160,7 +160,6 @@ def check_numbers(key):
     assert number_of(open, key, 1, 65536, block) == 6
     assert number_of(open, key, 1, 3, block[:511]) == 7
     assert number_of(open, key, 1, 4, block) == 8
-    assert number_of(open, key, 1, 4, bytes(512)) == 12
 
     assert number_of(seal, b"", bytes(497), 1, 65536, 511) == 1
     assert number_of(seal, key, bytes(497), 1, 65536, 511) == 7
