@@ -1,6 +1,6 @@
 -- Demand 1, over the definitions that the contracts of the calls cite: each of 01's numbers, and 02's 12 in the place of 8, under its listed condition, in
--- the order of the call, and what is left. In each call the conditions leave nothing out, so that no number is answered at another time. What numbers 8 and 12 mean is in Point4.antt.
--- proofs/Demand1.antt has one value of the record.
+-- the order of the call, and what is left. In each call the conditions leave nothing out, so that no number is answered at another time. What numbers 8 and 12
+-- mean is in Point4.antt. proofs/Demand1.antt has one value of the record.
 use Prim.Native.Nat.{ℕ, _≤_, _<_}
 use mathlib.Core.Path.{_≡_}
 use mathlib.Core.Bool.{true, false}

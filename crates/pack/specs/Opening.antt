@@ -87,5 +87,5 @@ module _ (S : Scheme) where
     pub used-limit : number ≡ 0 → used B ≤ 496
     pub sealed : number ≡ 0 → seal S key (payloadOf B) pack place ≡ C
     pub one-block : number ≡ 0 → OneBlock key (payloadOf B) pack place C
-    -- Where it was not, by 8 or 12, no payload seals to C.
+    -- Where C was not opened, by 8 or 12, no payload seals to it.
     pub unopened : UnopenedMeaning number key pack place C

@@ -20,7 +20,6 @@ use Rattle.layout.specs.Finding.{blockCount, part}
 use Rattle.layout.proofs.Parts.{is-pack, whole-blocks}
 use Rattle.pack.specs.Sealing.{seal}
 use Rattle.pack.specs.Opening.{numberOf as numberOfBlock, decipheredBlock, Unopened as BlockUnopened}
-use Rattle.pack.specs.Opening.{answerOf as answerOfBlock}
 use Rattle.pack.proofs.OneBlock.{FromPayload, opened-from, unopened as block-unopened}
 use Rattle.runs.specs.Run.{blockwise}
 use Rattle.runs.specs.Sealing.{someOver, payloadAt, sealedRun}

@@ -152,5 +152,5 @@ module _ (S : Scheme) where
     pub used-limit : numberOf answer ≡ 0 → someOver 496 lengths′ ≡ false
     pub sealed : numberOf answer ≡ 0 → sealedRun S key pack first lengths′ B ≡ C
     pub one-run : numberOf answer ≡ 0 → OneRun key (blockCount C) (payloadAt lengths′ B) pack first C
-    -- Where it was not, by the number of a block, that is the first that will not open.
+    -- Where a block would not open, the first such block is told, by its number and its place.
     pub unopened : UnopenedMeaning answer key pack first lengths C
