@@ -46,8 +46,8 @@ class Crate:
     def claims(self):
         """The names of the records of a crate without code."""
         for file in self.tables() if not self.has_code else ():
-            yield from re.findall(r"^pub record (\S+) ", self.checked[file],
-                                  re.M)
+            yield from re.findall(r"^pub record (\S+) : Type 0 where$",
+                                  self.checked[file], re.M)
 
     def is_guarded(self, promise):
         """Whether an edit quotes the promise, and cannot be made where the
@@ -65,13 +65,18 @@ class Crate:
 
     def is_proved(self, table):
         """Whether proofs/ has a value of each record that takes nothing, and
-        the table has one; in a crate without code there is no other."""
-        heads = re.findall(r"^ *(?:pub )?record (\S+) (.*)$",
-                           self.checked[table], re.M)
+        the table has one; in a crate without code, every other record is the
+        type of a field there."""
+        checked = self.checked[table]
+        heads = re.findall(r"^ *(?:pub )?record (\S+) (.*)$", checked, re.M)
         records = [name for name, rest in heads if rest == ": Type 0 where"]
+        others = {name for name, _ in heads}.difference(records)
         proofs = "".join(text for file, text in self.checked.items()
                          if file.startswith("proofs/"))
-        return (records != [] and (self.has_code or len(records) == len(heads))
+        return (records != []
+                and (self.has_code
+                     or all(re.search(rf"^  pub \S+ : {other} ", checked, re.M)
+                            for other in others))
                 and all(re.search(rf"^pub \S+ : {record}$", proofs, re.M)
                         for record in records))
 

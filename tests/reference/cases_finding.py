@@ -18,12 +18,12 @@ import re
 
 import finding
 import pack as packs
-from cases_lent import case as lent_case
 from cases_pack import number, opened, po_case, ps_case, refused
 from finding import MOST_BLOCKS, find, write
 from lines import (NO, answer_of, byte_drawer, digits, gather, line,
                    under_each_key)
 from pack import SIZE, seal
+from schemes import lent_case
 
 LAST = (1 << 32) - 1  # the largest place that a line can give
 HIGH_PLACES = (65535, 65536, LAST)

@@ -9,13 +9,15 @@ NO, a space and the number of the refusal; or NO alone where the line is not
 understood, and this is looked at before every number.
 
 Each group of cases draws from a generator with a seed of its own, so that a
-change to one group leaves the others as they were.
+change to one group leaves the others as they were. Where a group is given the
+names of other commands its cases are those, as in cases_forward.py.
 """
 
 import itertools
 import re
 
 import aes
+import forward
 import hch
 from field import ONES, TOP
 from hch import LEAST, MOST
@@ -31,7 +33,10 @@ LOST_FILE = 1236
 # bytes in the three fields.
 MOST_BYTES = (LONGEST - 5) // 2
 
-DIRECTIONS = {"he": hch.encipher, "hd": hch.decipher}
+# The calls on data by their commands, those of both schemes.
+DIRECTIONS = {"he": hch.encipher, "hd": hch.decipher,
+              "fe": forward.encipher, "fd": forward.decipher}
+NAMES = ("he", "hd")
 
 
 def case(name, key, tweak, data):
@@ -39,7 +44,7 @@ def case(name, key, tweak, data):
             answer_of(DIRECTIONS[name], key, tweak, data))
 
 
-def refused(number, key, tweak, data, names=("he", "hd")):
+def refused(number, key, tweak, data, names=NAMES):
     """A case that is refused with this number, in the directions named."""
     for name in names:
         text, answer = case(name, key, tweak, data)
@@ -47,9 +52,9 @@ def refused(number, key, tweak, data, names=("he", "hd")):
         yield text, answer
 
 
-def both(key, tweak, data):
+def both(key, tweak, data, names=NAMES):
     """The data enciphered, and the same data deciphered."""
-    for name in DIRECTIONS:
+    for name in names:
         yield case(name, key, tweak, data)
 
 
@@ -74,43 +79,45 @@ def length_cases(key_length):
         yield from pair("hd", "he", *next(turns), draw(length))
 
 
-def long_cases(key_length):
+def long_cases(key_length, names=NAMES):
     """Lengths about 512 bytes, and up to the most. Zeros that are as long as a
     block are data as any other here."""
     draw = byte_drawer("hch: long", key_length)
+    e, d = names
     for length in (511, 512, 513):
-        yield from pair("he", "hd", draw(key_length), draw(16), draw(length))
-        yield from pair("hd", "he", draw(key_length), draw(16), draw(length))
+        yield from pair(e, d, draw(key_length), draw(16), draw(length))
+        yield from pair(d, e, draw(key_length), draw(16), draw(length))
     for length in (4080, 4081, 4095):
-        yield from pair("he", "hd", draw(key_length), draw(16), draw(length))
-    yield from pair("he", "hd", draw(key_length), draw(16), draw(MOST))
-    yield from pair("hd", "he", b"\xff" * key_length, ZERO_BLOCK,
-                    b"\xff" * MOST)
-    yield from both(draw(key_length), draw(16), bytes(512))
+        yield from pair(e, d, draw(key_length), draw(16), draw(length))
+    yield from pair(e, d, draw(key_length), draw(16), draw(MOST))
+    yield from pair(d, e, b"\xff" * key_length, ZERO_BLOCK, b"\xff" * MOST)
+    yield from both(draw(key_length), draw(16), bytes(512), names)
 
 
-def lost_file_cases(key_length):
+def lost_file_cases(key_length, names=NAMES):
     draw = byte_drawer("hch: lost file", key_length)
     key, tweak, board = draw(key_length), draw(16), draw(LOST_FILE)
-    yield from pair("he", "hd", key, tweak, board)
-    yield from pair("hd", "he", key, tweak, board)
-    yield from both(bytes(key_length), ZERO_BLOCK, bytes(LOST_FILE))
-    yield from both(key, tweak, other_bit(board, 0x01))
+    yield from pair(*names, key, tweak, board)
+    yield from pair(*names[::-1], key, tweak, board)
+    yield from both(bytes(key_length), ZERO_BLOCK, bytes(LOST_FILE), names)
+    yield from both(key, tweak, other_bit(board, 0x01), names)
 
 
-def board_cases(key_length):
+def board_cases(key_length, lengths=(16, 17, 20, 31, 32, 33, 48, 49),
+                same=(16, 24, 48), names=NAMES):
     """Boards of one byte over and over, which tell a length from the next,
     under keys and tweaks of the same kind."""
     draw = byte_drawer("hch: boards", key_length)
     keys = [bytes(key_length), b"\xff" * key_length]
-    for length in (16, 17, 20, 31, 32, 33, 48, 49):
+    for length in lengths:
         for key, tweak in itertools.product(keys, (ZERO_BLOCK, ONES_BLOCK)):
             for byte in (b"\x00", b"\xff"):
-                yield from both(key, tweak, byte * length)
+                yield from both(key, tweak, byte * length, names)
     # The tweak and each block of the key and of the data all the same.
-    for length in (16, 24, 48):
+    for length in same:
         block = draw(16)
-        yield from both((2 * block)[:key_length], block, (3 * block)[:length])
+        yield from both((2 * block)[:key_length], block, (3 * block)[:length],
+                        names)
 
 
 def other_bit(string, bit):
@@ -252,7 +259,7 @@ def line_cases():
 
     # Unknown commands.
     for name in (b"h", b"e", b"hee", b"hed", b"hc", b"hf", b"HE", b"hD",
-                 b"eh", b"ge", b"h e", b"he\0"):
+                 b"eh", b"ie", b"h e", b"he\0"):
         yield name + b" " + good, NO
     yield case("hd", draw(16), draw(16), draw(48))
 

@@ -12,51 +12,25 @@ the last is what is lent. NO alone is for a line that is not understood, and
 this is looked at before every number.
 
 Each group of cases draws from a generator with a seed of its own, so that a
-change to one group leaves the others as they were.
+change to one group leaves the others as they were. Where a group is given
+another scheme its cases are under that one, as in cases_forward.py.
 """
 
 import itertools
 import re
 
 import hch
-import pack as packs
 from cases_hch import MOST_BYTES, other_bit
-from cases_pack import (LAST_PACK, almost_blank, by_hand, fields, nonzero,
-                        number, with_bit, with_bytes)
+from cases_pack import (LAST_PACK, almost_blank, nonzero, number, with_bit,
+                        with_bytes)
 from hch import LEAST
-from lines import (WRONG_KEYS, byte_drawer, digits, gather, line, misread,
+from lines import (WRONG_KEYS, byte_drawer, digits, gather, misread,
                    sharing_halves, under_each_key)
-from pack import LAST_PLACE, MOST, SIZE, plain_block, seal
+from pack import LAST_PLACE, MOST, SIZE, plain_block
+from schemes import HCH
 
-DIRECTIONS = {"le": hch.encipher, "ld": hch.decipher}
 WRONG_BLOCKS = (0, 1, 511, 513, 1024)
 HIGH_PLACES = (LAST_PLACE + 1, (1 << 32) - 1)
-
-
-def case(text, lent, call, *arguments):
-    """The line, and its answer by a call that returns what is left where it is
-    done. Each refusal "leaves the lent bytes unchanged"."""
-    try:
-        answer, left = 0, call(*arguments)
-    except hch.Refused as refusal:
-        answer, left = refusal.number, lent
-    assert len(left) == len(lent)
-    return text, b"%d %s" % (answer, digits(left))
-
-
-def hch_case(name, key, tweak, data):
-    return case(line(name, key.hex(), tweak.hex(), data.hex()), data,
-                DIRECTIONS[name], key, tweak, data)
-
-
-def ls_case(key, pack, place, payload, block):
-    return case(fields("ls", key, pack, place, payload, block), block,
-                seal, key, payload, pack, place, len(block))
-
-
-def lo_case(key, pack, place, block):
-    return case(fields("lo", key, pack, place, block), block,
-                lambda *call: packs.open(*call)[1], key, pack, place, block)
 
 
 def answers(wanted, given):
@@ -74,10 +48,10 @@ def leaves(left, given):
     return given
 
 
-def both(wanted, key, tweak, data):
+def both(wanted, key, tweak, data, under=HCH):
     """The call with this number in both directions."""
-    for name in DIRECTIONS:
-        yield answers(wanted, hch_case(name, key, tweak, data))
+    for way in "ed":
+        yield answers(wanted, under.message(way, key, tweak, data))
 
 
 def several(*order):
@@ -88,128 +62,132 @@ def several(*order):
             yield numbers[0], numbers
 
 
-def message_cases(key_length):
-    """Calls that are done, and each number of HCH alone."""
+def message_cases(key_length, under=HCH):
+    """Calls that are done, and each number of the scheme alone."""
     draw = byte_drawer("lent: messages", key_length)
-    key, tweak = draw(key_length), draw(16)
-    for length in (LEAST, 17, 20, 32, 33, SIZE, hch.MOST):
+    key, tweak, least = draw(key_length), draw(16), under.least
+    for length in (least, least + 1, least + 4, least + 16, least + 17, SIZE,
+                   hch.MOST):
         board = draw(length)
-        yield answers(0, hch_case("le", key, tweak, board))
-        yield leaves(board, hch_case(
-            "ld", key, tweak, hch.encipher(key, tweak, board)))
+        yield answers(0, under.message("e", key, tweak, board))
+        yield leaves(board, under.message(
+            "d", key, tweak, under.encipher(key, tweak, board)))
     for length in WRONG_KEYS[key_length]:
-        yield from both(1, draw(length), tweak, draw(40))
+        yield from both(1, draw(length), tweak, draw(40), under)
     for length in (0, 1, 15, 17, 32):
-        yield from both(2, key, draw(length), draw(40))
-    for length in (0, 1, 15):
-        yield from both(3, key, tweak, draw(length))
-    yield from both(4, key, tweak, draw(hch.MOST + 1))
-    yield from both(0, key, tweak, draw(LEAST))
+        yield from both(2, key, draw(length), draw(40), under)
+    for length in (0, 1, least - 1):
+        yield from both(under.too_short, key, tweak, draw(length), under)
+    yield from both(4, key, tweak, draw(hch.MOST + 1), under)
+    yield from both(0, key, tweak, draw(least), under)
 
 
-def message_order_cases(key_length):
-    """Several numbers of HCH at once. Data is never both too short and too
-    long. A wrong key and a wrong tweak have together the bytes of good
+def message_order_cases(key_length, under=HCH):
+    """Several numbers of the scheme at once. Data is never both too short and
+    too long. A wrong key and a wrong tweak have together the bytes of good
     ones."""
     draw = byte_drawer("lent: message order", key_length)
-    for size, more, length in ((3, -1, 15), (3, 1, 0), (3, -key_length, 1),
-                               (4, 1, hch.MOST + 1)):
+    short = under.too_short
+    for size, more, length in ((short, -1, under.least - 1), (short, 1, 0),
+                               (short, -key_length, 1), (4, 1, hch.MOST + 1)):
         for wanted, numbers in several(1, 2, size):
             yield from both(
                 wanted, draw(key_length + (more if 1 in numbers else 0)),
                 draw(16 - (more if 2 in numbers else 0)),
-                draw(length if size in numbers else 40))
+                draw(length if size in numbers else 40), under)
 
 
-def sealing_cases(key_length):
+def sealing_cases(key_length, under=HCH):
     """Payloads sealed, and the blocks opened again."""
     draw = byte_drawer("lent: sealing", key_length)
     for length, pack, place in ((0, 0, 0), (1, LAST_PACK, LAST_PLACE),
                                 (495, number(draw(8)), 0),
                                 (MOST, number(draw(8)), LAST_PLACE)):
         key, payload = draw(key_length), draw(length)
-        yield answers(0, ls_case(key, pack, place, payload, draw(SIZE)))
-        yield leaves(plain_block(payload, pack, place), lo_case(
-            key, pack, place, seal(key, payload, pack, place)))
+        yield answers(0, under.ls(key, pack, place, payload, draw(SIZE)))
+        yield leaves(plain_block(payload, pack, place), under.lo(
+            key, pack, place, under.seal(key, payload, pack, place)))
 
     # "What the lent block held before has no effect": other bytes, the plain
     # block, and the sealed one.
     key, pack, payload = draw(key_length), number(draw(8)), draw(20)
-    block = seal(key, payload, pack, 3)
+    block = under.seal(key, payload, pack, 3)
     for lent in (bytes(SIZE), b"\xff" * SIZE, draw(SIZE), block,
                  plain_block(payload, pack, 3)):
-        yield leaves(block, ls_case(key, pack, 3, payload, lent))
+        yield leaves(block, under.ls(key, pack, 3, payload, lent))
 
 
-def sealing_refusal_cases(key_length):
+def sealing_refusal_cases(key_length, under=HCH):
     """Each number of sealing alone, and several at once."""
     draw = byte_drawer("lent: sealing refusals", key_length)
     key, pack, payload = draw(key_length), number(draw(8)), draw(3)
     for length in WRONG_KEYS[key_length]:
-        yield answers(1, ls_case(draw(length), pack, 3, payload, draw(SIZE)))
+        yield answers(1, under.ls(draw(length), pack, 3, payload, draw(SIZE)))
     for length in WRONG_BLOCKS:
-        yield answers(7, ls_case(key, pack, 3, payload, draw(length)))
+        yield answers(7, under.ls(key, pack, 3, payload, draw(length)))
     for length in (MOST + 1, SIZE):
-        yield answers(5, ls_case(key, pack, 3, draw(length), draw(SIZE)))
+        yield answers(5, under.ls(key, pack, 3, draw(length), draw(SIZE)))
     for place in HIGH_PLACES:
-        yield answers(6, ls_case(key, pack, place, payload, draw(SIZE)))
+        yield answers(6, under.ls(key, pack, place, payload, draw(SIZE)))
 
     for wrong, length in ((key_length - 1, 511), (key_length + 1, 1), (0, 0)):
         for wanted, numbers in several(1, 7, 5, 6):
-            yield answers(wanted, ls_case(
+            yield answers(wanted, under.ls(
                 draw(wrong) if 1 in numbers else key, pack,
                 LAST_PLACE + 4 if 6 in numbers else 3,
                 draw(MOST + 1 if 5 in numbers else 3),
                 draw(length if 7 in numbers else SIZE)))
     # The payload has the block's bytes, and the block the payload's.
-    yield answers(7, ls_case(key, pack, 3, draw(SIZE), draw(MOST)))
-    yield answers(0, ls_case(key, pack, 3, payload, draw(SIZE)))
+    yield answers(7, under.ls(key, pack, 3, draw(SIZE), draw(MOST)))
+    yield answers(0, under.ls(key, pack, 3, payload, draw(SIZE)))
 
 
-def opening_refusal_cases(key_length):
+def opening_refusal_cases(key_length, under=HCH):
     """The numbers of opening before its check, each alone, and several at
     once, number 8 too."""
     draw = byte_drawer("lent: opening refusals", key_length)
     key, pack, payload = draw(key_length), number(draw(8)), draw(100)
-    block = seal(key, payload, pack, 3)
+    block = under.seal(key, payload, pack, 3)
     for length in WRONG_KEYS[key_length]:
-        yield answers(1, lo_case(draw(length), pack, 3, block))
+        yield answers(1, under.lo(draw(length), pack, 3, block))
     for length in WRONG_BLOCKS:
-        yield answers(7, lo_case(key, pack, 3, (2 * block)[:length]))
+        yield answers(7, under.lo(key, pack, 3, (2 * block)[:length]))
     # These blocks would pass their check, which is looked at last.
     for place in HIGH_PLACES:
-        yield answers(6, lo_case(key, pack, place, by_hand(
+        yield answers(6, under.lo(key, pack, place, under.by_hand(
             key, pack, place, plain_block(payload, pack, place))))
 
     for wrong, length in ((key_length - 1, 511), (key_length + 1, 1), (0, 0)):
         for wanted, numbers in several(1, 7, 6, 8):
             place = LAST_PLACE + 4 if 6 in numbers else 3
-            lent = by_hand(key, pack, place, plain_block(payload, pack, place))
+            lent = under.by_hand(
+                key, pack, place, plain_block(payload, pack, place))
             if 8 in numbers:
                 lent = with_bit(lent, 0, 0x01)
-            yield answers(wanted, lo_case(
+            yield answers(wanted, under.lo(
                 draw(wrong) if 1 in numbers else key, pack, place,
                 lent[:length] if 7 in numbers else lent))
-    yield answers(0, lo_case(key, pack, 3, block))
+    yield answers(0, under.lo(key, pack, 3, block))
 
 
-def check_cases(key_length):
+def check_cases(key_length, under=HCH):
     """Blocks that fail their check. "Leaving deciphered bytes behind" would
     show."""
     draw = byte_drawer("lent: check", key_length)
     key, pack, payload = draw(key_length), number(draw(8)), nonzero(draw(20))
-    block, plain = seal(key, payload, pack, 3), plain_block(payload, pack, 3)
+    block = under.seal(key, payload, pack, 3)
+    plain = plain_block(payload, pack, 3)
 
     # The table's own example, other packs and keys, and damaged blocks.
-    yield answers(8, lo_case(key, pack, 4, block))
-    yield answers(8, lo_case(key, pack ^ 1, 3, block))
-    yield answers(8, lo_case(key, pack ^ 1 << 63, 3, block))
-    yield answers(8, lo_case(other_bit(key, 0x01), pack, 3, block))
+    yield answers(8, under.lo(key, pack, 4, block))
+    yield answers(8, under.lo(key, pack ^ 1, 3, block))
+    yield answers(8, under.lo(key, pack ^ 1 << 63, 3, block))
+    yield answers(8, under.lo(other_bit(key, 0x01), pack, 3, block))
     for at in (0, 15, 16, 496, 511):
-        yield answers(8, lo_case(key, pack, 3, with_bit(block, at, 0x10)))
-    yield answers(12, lo_case(key, pack, 3, bytes(SIZE)))
+        yield answers(8, under.lo(key, pack, 3, with_bit(block, at, 0x10)))
+    yield answers(12, under.lo(key, pack, 3, bytes(SIZE)))
     for other in (draw(SIZE), plain):
-        yield answers(8, lo_case(key, pack, 3, other))
+        yield answers(8, under.lo(key, pack, 3, other))
 
     # One part of the check wrong: u, the filling, the pack number, the place
     # and the last two bytes.
@@ -219,51 +197,54 @@ def check_cases(key_length):
              *(with_bit(plain, at, 0x01)
                for at in (20, 495, 496, 503, 504, 507, 510, 511))]
     for other in wrong:
-        yield answers(8, lo_case(key, pack, 3, by_hand(key, pack, 3, other)))
-    yield answers(0, lo_case(key, pack, 3, by_hand(key, pack, 3, plain)))
+        yield answers(8, under.lo(
+            key, pack, 3, under.by_hand(key, pack, 3, other)))
+    yield answers(0, under.lo(
+        key, pack, 3, under.by_hand(key, pack, 3, plain)))
 
 
-def blank_cases(key_length):
+def blank_cases(key_length, under=HCH):
     """Zero blocks: number 12, with other numbers before it, and sealing into
     such a block. Blocks that are not all zero: number 8."""
     draw = byte_drawer("lent: blank", key_length)
     key, pack, payload = draw(key_length), number(draw(8)), draw(20)
     zeros = bytes(SIZE)
     for place in (0, 5, LAST_PLACE):
-        block = seal(key, payload, pack, place)
-        yield answers(12, lo_case(key, pack, place, zeros))
-        yield leaves(block, ls_case(key, pack, place, payload, zeros))
+        block = under.seal(key, payload, pack, place)
+        yield answers(12, under.lo(key, pack, place, zeros))
+        yield leaves(block, under.ls(key, pack, place, payload, zeros))
         yield leaves(plain_block(payload, pack, place),
-                     lo_case(key, pack, place, block))
-    yield answers(12, lo_case(bytes(key_length), 0, 0, zeros))
+                     under.lo(key, pack, place, block))
+    yield answers(12, under.lo(bytes(key_length), 0, 0, zeros))
 
     for wrong, length, place in ((key_length - 1, 511, LAST_PLACE + 1),
                                  (key_length + 1, 513, LAST_PLACE + 6),
                                  (0, 0, HIGH_PLACES[1])):
         for wanted, numbers in several(1, 7, 6, 12):
             if 12 in numbers:
-                yield answers(wanted, lo_case(
+                yield answers(wanted, under.lo(
                     draw(wrong) if 1 in numbers else key, pack,
                     place if 6 in numbers else 5,
                     bytes(length if 7 in numbers else SIZE)))
 
     for block in almost_blank(draw):
-        yield answers(8, lo_case(key, pack, 5, block))
-    yield answers(8, lo_case(key, pack, 5, by_hand(key, pack, 5, zeros)))
+        yield answers(8, under.lo(key, pack, 5, block))
+    yield answers(8, under.lo(
+        key, pack, 5, under.by_hand(key, pack, 5, zeros)))
 
 
-def half_cases():
+def half_cases(under=HCH):
     """A message and a block under keys that share a half. The block opens
     under the first of them alone."""
     draw = byte_drawer("lent: halves")
     key, tweak, board, pack = draw(32), draw(16), draw(33), number(draw(8))
-    block = seal(key, board, pack, 3)
-    yield answers(0, lo_case(key, pack, 3, block))
-    yield from both(0, key, tweak, board)
+    block = under.seal(key, board, pack, 3)
+    yield answers(0, under.lo(key, pack, 3, block))
+    yield from both(0, key, tweak, board, under)
     for other in sharing_halves(key, draw(32)):
-        yield answers(8, lo_case(other, pack, 3, block))
-        yield answers(0, ls_case(other, pack, 3, board, block))
-        yield from both(0, other, tweak, board)
+        yield answers(8, under.lo(other, pack, 3, block))
+        yield answers(0, under.ls(other, pack, 3, board, block))
+        yield from both(0, other, tweak, board, under)
 
 
 def line_cases():
@@ -279,11 +260,11 @@ def line_cases():
         yield from both(0, draw(16), draw(16), draw(17))
 
     # The longest line that is understood.
-    yield answers(1, hch_case("ld", b"", b"", draw(MOST_BYTES)))
+    yield answers(1, HCH.message("d", b"", b"", draw(MOST_BYTES)))
     # Understood: lines whose last field is empty.
     yield from both(1, b"", b"", b"")
-    yield answers(1, ls_case(b"", 0, 0, b"", b""))
-    yield answers(1, lo_case(b"", 0, 0, b""))
+    yield answers(1, HCH.ls(b"", 0, 0, b"", b""))
+    yield answers(1, HCH.lo(b"", 0, 0, b""))
     yield from both(0, draw(16), draw(16), draw(LEAST))
 
 
@@ -303,16 +284,16 @@ def cases():
 
 def check():
     """The table's small examples, and the form of an answer."""
-    key, block = bytes(16), seal(bytes(16), b"ABC", 1, 3)
+    key, block = bytes(16), HCH.seal(bytes(16), b"ABC", 1, 3)
     zeros, full = b"00" * 16, b"00" * SIZE
-    assert hch_case("le", b"\x00", key, key)[1] == b"1 " + zeros
-    assert hch_case("ld", key, b"", key)[1] == b"2 " + zeros
-    assert hch_case("le", key, key, b"")[1] == b"3 "
-    assert hch_case("ld", key, key, bytes(15))[1] == b"3 " + zeros[2:]
-    assert hch_case("le", key, key, bytes(4097))[1] == b"4 " + b"00" * 4097
-    assert ls_case(key, 1, 3, bytes(497), bytes(SIZE))[1] == b"5 " + full
-    assert ls_case(key, 1, 65536, b"", bytes(SIZE))[1] == b"6 " + full
-    assert ls_case(key, 1, 3, b"ABC", bytes(511))[1] == b"7 " + full[2:]
-    assert ls_case(key, 1, 3, b"ABC", bytes(SIZE))[1] == b"0 " + digits(block)
-    assert lo_case(key, 1, 4, block)[1] == b"8 " + digits(block)
-    assert lo_case(key, 1, 4, bytes(SIZE))[1] == b"12 " + full
+    assert HCH.message("e", b"\x00", key, key)[1] == b"1 " + zeros
+    assert HCH.message("d", key, b"", key)[1] == b"2 " + zeros
+    assert HCH.message("e", key, key, b"")[1] == b"3 "
+    assert HCH.message("d", key, key, bytes(15))[1] == b"3 " + zeros[2:]
+    assert HCH.message("e", key, key, bytes(4097))[1] == b"4 " + b"00" * 4097
+    assert HCH.ls(key, 1, 3, bytes(497), bytes(SIZE))[1] == b"5 " + full
+    assert HCH.ls(key, 1, 65536, b"", bytes(SIZE))[1] == b"6 " + full
+    assert HCH.ls(key, 1, 3, b"ABC", bytes(511))[1] == b"7 " + full[2:]
+    assert HCH.ls(key, 1, 3, b"ABC", bytes(SIZE))[1] == b"0 " + digits(block)
+    assert HCH.lo(key, 1, 4, block)[1] == b"8 " + digits(block)
+    assert HCH.lo(key, 1, 4, bytes(SIZE))[1] == b"12 " + full

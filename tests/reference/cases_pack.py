@@ -11,17 +11,18 @@ alone is for a line that is not understood, and this is looked at before every
 number.
 
 Each group of cases draws from a generator with a seed of its own, so that a
-change to one group leaves the others as they were.
+change to one group leaves the others as they were. Where a group is given
+another scheme its cases are under that one, as in cases_forward.py.
 """
 
 import re
 
-import hch
 import pack as packs
 from cases_hch import other_bit
-from lines import (LONGEST, NO, WRONG_KEYS, answer_of, byte_drawer, gather,
-                   line, sharing_halves, under_each_key)
-from pack import LAST_PLACE, MOST, SIZE, plain_block, seal, tweak
+from lines import (LONGEST, NO, WRONG_KEYS, byte_drawer, gather, line,
+                   sharing_halves, under_each_key)
+from pack import LAST_PLACE, MOST, SIZE, plain_block, tweak
+from schemes import HCH
 
 LAST_PACK = (1 << 64) - 1
 
@@ -29,26 +30,8 @@ LAST_PACK = (1 << 64) - 1
 # digits for each of so many bytes in the two other fields.
 MOST_BYTES = (LONGEST - 30) // 2
 
-
-def fields(name, key, pack, place, *rest):
-    return line(name, key.hex(), f"{pack:016x}", f"{place:08x}",
-                *(field.hex() for field in rest))
-
-
-def ps_case(key, pack, place, payload):
-    return (fields("ps", key, pack, place, payload),
-            answer_of(seal, key, payload, pack, place))
-
-
-def po_case(key, pack, place, block):
-    try:
-        u, plain = packs.open(key, pack, place, block)
-        answer = b"%d %s" % (u, plain.hex().encode("ascii"))
-        # What is opened is what sealing writes for it.
-        assert seal(key, plain[:u], pack, place) == block
-    except hch.Refused as refusal:
-        answer = NO + b" %d" % refusal.number
-    return fields("po", key, pack, place, block), answer
+# For the parts that are under HCH alone.
+by_hand, po_case, ps_case = HCH.by_hand, HCH.po, HCH.ps
 
 
 def refused(number, case):
@@ -61,13 +44,6 @@ def opened(u, case):
     """A case that is opened with this u."""
     assert case[1].startswith(b"%d " % u), case[0][:80]
     return case
-
-
-def pair(key, pack, place, payload):
-    """The payload sealed, and its block opened again."""
-    yield ps_case(key, pack, place, payload)
-    yield opened(len(payload), po_case(
-        key, pack, place, seal(key, payload, pack, place)))
 
 
 def number(string):
@@ -89,108 +65,104 @@ def with_bit(string, at, bit):
     return with_bytes(string, at, bytes([string[at] ^ bit]))
 
 
-def by_hand(key, pack, place, plain):
-    """These 512 bytes enciphered with the right tweak, plain block or not."""
-    return hch.encipher(key, tweak(pack, place), plain)
-
-
-def example_cases(key_length):
+def example_cases(key_length, under=HCH):
     """01's P12 to P14: the tweak of pack 1 and place 258, a plain block of
     zeros, and a payload of three bytes."""
     draw = byte_drawer("pack: examples", key_length)
     for key in (bytes(key_length), draw(key_length)):
-        yield from pair(key, 1, 258, b"\x41\x42\x43")
-        yield from pair(key, 0, 0, b"")
-        yield from pair(key, 1, 2, b"\x41\x42\x43")
+        yield from under.pair(key, 1, 258, b"\x41\x42\x43")
+        yield from under.pair(key, 0, 0, b"")
+        yield from under.pair(key, 1, 2, b"\x41\x42\x43")
 
 
-def length_cases(key_length):
+def length_cases(key_length, under=HCH):
     draw = byte_drawer("pack: lengths", key_length)
     for length in (0, 1, 3, 15, 16, 17, 32, 255, 256, 480, 481, 495, MOST):
-        yield from pair(draw(key_length), number(draw(8)), number(draw(2)),
-                        nonzero(draw(length)))
+        yield from under.pair(draw(key_length), number(draw(8)),
+                              number(draw(2)), nonzero(draw(length)))
     # Payloads of zeros, which u alone tells apart, and of ones.
     key, pack, place = draw(key_length), number(draw(8)), number(draw(2))
     for length in (0, 1, 495, MOST):
-        yield from pair(key, pack, place, bytes(length))
-    yield from pair(b"\xff" * key_length, LAST_PACK, LAST_PLACE,
-                    b"\xff" * MOST)
+        yield from under.pair(key, pack, place, bytes(length))
+    yield from under.pair(b"\xff" * key_length, LAST_PACK, LAST_PLACE,
+                          b"\xff" * MOST)
 
 
-def number_cases(key_length):
+def number_cases(key_length, under=HCH):
     draw = byte_drawer("pack: numbers", key_length)
     key, pack, payload = draw(key_length), number(draw(8)), draw(20)
     for place in (0, 1, 2, 258, 65534, LAST_PLACE):
-        yield from pair(key, pack, place, payload)
+        yield from under.pair(key, pack, place, payload)
     for other in (0, 1, 1 << 63, LAST_PACK):
         for place in (258, LAST_PLACE):
-            yield from pair(key, other, place, payload)
+            yield from under.pair(key, other, place, payload)
     # Places over 65,535. These blocks would pass their check, which is looked
     # at last.
     for other in (pack, LAST_PACK):
         for place in (LAST_PLACE + 1, (1 << 32) - 1):
-            yield refused(6, ps_case(key, other, place, payload))
-            yield refused(6, po_case(key, other, place, by_hand(
+            yield refused(6, under.ps(key, other, place, payload))
+            yield refused(6, under.po(key, other, place, under.by_hand(
                 key, other, place, plain_block(payload, other, place))))
 
 
-def other_cases(key_length):
+def other_cases(key_length, under=HCH):
     """Blocks opened as what they were not sealed for."""
     draw = byte_drawer("pack: others", key_length)
     key, pack, payload = draw(key_length), number(draw(8)), draw(100)
-    block = seal(key, payload, pack, 3)
-    yield from pair(key, pack, 3, payload)
+    block = under.seal(key, payload, pack, 3)
+    yield from under.pair(key, pack, 3, payload)
     for place in (2, 4, 0x0103, 0x8003):
-        yield refused(8, po_case(key, pack, place, block))
+        yield refused(8, under.po(key, pack, place, block))
     for bit in (0, 31, 32, 63):
-        yield refused(8, po_case(key, pack ^ 1 << bit, 3, block))
+        yield refused(8, under.po(key, pack ^ 1 << bit, 3, block))
     for other in (other_bit(key, 0x01), draw(key_length)):
-        yield refused(8, po_case(other, pack, 3, block))
+        yield refused(8, under.po(other, pack, 3, block))
     # The pack number and the place exchanged.
-    yield refused(8, po_case(key, 4, 3, seal(key, payload, 3, 4)))
+    yield refused(8, under.po(key, 4, 3, under.seal(key, payload, 3, 4)))
     # A place over 65,535 does not stand for its last 16 bits.
-    yield refused(6, po_case(key, pack, 65536 + 3, block))
+    yield refused(6, under.po(key, pack, 65536 + 3, block))
 
 
-def half_cases():
+def half_cases(under=HCH):
     """A payload sealed under keys that share a half, and the block of the
     first of them opened under the others."""
     draw = byte_drawer("pack: halves")
     key, pack, payload = draw(32), number(draw(8)), draw(20)
-    yield from pair(key, pack, 3, payload)
+    yield from under.pair(key, pack, 3, payload)
     for other in sharing_halves(key, draw(32)):
-        yield ps_case(other, pack, 3, payload)
-        yield refused(8, po_case(other, pack, 3, seal(key, payload, pack, 3)))
+        yield under.ps(other, pack, 3, payload)
+        yield refused(8, under.po(
+            other, pack, 3, under.seal(key, payload, pack, 3)))
 
 
-def bit_cases():
+def bit_cases(under=HCH):
     """One bit changed in each sixteen bytes of a block, and of a zero block:
     in each byte of the sixteen twice, and there not the same bit."""
     draw = byte_drawer("pack: bits")
     key, pack, place = draw(16), number(draw(8)), number(draw(2))
-    block = seal(key, draw(300), pack, place)
-    yield opened(300, po_case(key, pack, place, block))
+    block = under.seal(key, draw(300), pack, place)
+    yield opened(300, under.po(key, pack, place, block))
     for lent in (block, bytes(SIZE)):
         for i in range(SIZE // 16):
-            yield refused(8, po_case(key, pack, place, with_bit(
+            yield refused(8, under.po(key, pack, place, with_bit(
                 lent, 16 * i + 7 * i % 16, 1 << (3 * i + i // 16) % 8)))
 
 
-def any_block_cases(key_length):
+def any_block_cases(key_length, under=HCH):
     """Blocks that sealing did not write."""
     draw = byte_drawer("pack: any block", key_length)
     for key, pack, place in (
             (bytes(key_length), 0, 0),
             (draw(key_length), number(draw(8)), number(draw(2)))):
-        yield refused(12, po_case(key, pack, place, bytes(SIZE)))
+        yield refused(12, under.po(key, pack, place, bytes(SIZE)))
         for block in (b"\xff" * SIZE, draw(SIZE)):
-            yield refused(8, po_case(key, pack, place, block))
+            yield refused(8, under.po(key, pack, place, block))
         # A plain block that was not enciphered.
-        yield refused(8, po_case(key, pack, place, plain_block(
+        yield refused(8, under.po(key, pack, place, plain_block(
             b"ABC", pack, place)))
 
 
-def blank_cases(key_length):
+def blank_cases(key_length, under=HCH):
     """Zero blocks, each pack number with each place under one of the keys.
     cases_lent.py has what comes before number 12, and sealing into such a
     block."""
@@ -201,7 +173,7 @@ def blank_cases(key_length):
     for i, key in enumerate(keys):
         for pack, place in zip((0, 1, number(draw(8)), LAST_PACK),
                                places[i:] + places[:i]):
-            yield refused(12, po_case(key, pack, place, bytes(SIZE)))
+            yield refused(12, under.po(key, pack, place, bytes(SIZE)))
 
 
 def almost_blank(draw):
@@ -223,22 +195,22 @@ def almost_blank(draw):
     yield 32 * draw(16)
 
 
-def almost_blank_cases(key_length):
+def almost_blank_cases(key_length, under=HCH):
     """Blocks that are not zero, and number 8 for them; bit_cases has one bit
     in every part."""
     draw = byte_drawer("pack: almost blank", key_length)
     key, pack, place = draw(key_length), number(draw(8)), number(draw(2))
     for block in almost_blank(draw):
-        yield refused(8, po_case(key, pack, place, block))
+        yield refused(8, under.po(key, pack, place, block))
     # Blocks that decipher to zeros: the lent bytes count. For pack 0 and place
     # 0 this is the block of an empty payload (P13).
     for other, at in ((pack, place), (0, place | 1), (pack | 1, 0)):
-        yield refused(8, po_case(key, other, at, by_hand(
+        yield refused(8, under.po(key, other, at, under.by_hand(
             key, other, at, bytes(SIZE))))
-    yield opened(0, po_case(key, 0, 0, by_hand(key, 0, 0, bytes(SIZE))))
+    yield opened(0, under.po(key, 0, 0, under.by_hand(key, 0, 0, bytes(SIZE))))
 
 
-def by_hand_cases():
+def by_hand_cases(under=HCH):
     """Blocks that decipher to a plain block with one part of its check wrong;
     a comment says where it is more than one, and where the block passes."""
     draw = byte_drawer("pack: by hand")
@@ -246,7 +218,8 @@ def by_hand_cases():
     full, short = nonzero(draw(MOST)), nonzero(draw(20))
 
     def po(plain):
-        return po_case(key, pack, place, by_hand(key, pack, place, plain))
+        return under.po(
+            key, pack, place, under.by_hand(key, pack, place, plain))
 
     def with_u(payload, u):
         """The plain block of the payload but for its u."""
@@ -309,16 +282,16 @@ def by_hand_cases():
     # A place over 65,535 with the same last 16 bits.
     yield refused(8, po(plain_block(short, pack, 65536 + place)))
     # The right plain block under its neighbour's tweak: nothing is right.
-    yield refused(8, po_case(key, pack, place, hch.encipher(
+    yield refused(8, under.po(key, pack, place, under.encipher(
         key, tweak(pack, place + 1), plain)))
     yield opened(20, po(plain))
 
 
-def refusal_cases(key_length):
+def refusal_cases(key_length, under=HCH):
     draw = byte_drawer("pack: refusals", key_length)
     key, pack, place = draw(key_length), number(draw(8)), number(draw(2))
     payload, over = draw(40), draw(MOST + 1)
-    block = seal(key, payload, pack, place)
+    block = under.seal(key, payload, pack, place)
     bad_place = LAST_PLACE + 1
     bad_block = other_bit(block, 0x01)
 
@@ -326,47 +299,47 @@ def refusal_cases(key_length):
     # other numbers, are among them.
     for length in WRONG_KEYS[key_length]:
         wrong = draw(length)
-        yield refused(1, ps_case(wrong, pack, place, payload))
-        yield refused(1, po_case(wrong, pack, place, block))
-    yield from pair(key, pack, place, payload)
+        yield refused(1, under.ps(wrong, pack, place, payload))
+        yield refused(1, under.po(wrong, pack, place, block))
+    yield from under.pair(key, pack, place, payload)
     for length in (MOST + 1, SIZE, 4097):
-        yield refused(5, ps_case(key, pack, place, draw(length)))
+        yield refused(5, under.ps(key, pack, place, draw(length)))
     for length in (0, 15, 16, MOST, 511, 513, 1024, 4097):
-        yield refused(7, po_case(key, pack, place, (9 * block)[:length]))
-    yield refused(6, ps_case(key, pack, bad_place, b""))
-    yield refused(6, po_case(key, pack, bad_place, block))
-    yield refused(8, po_case(key, pack, place, bad_block))
-    yield from pair(key, pack, place, b"")
+        yield refused(7, under.po(key, pack, place, (9 * block)[:length]))
+    yield refused(6, under.ps(key, pack, bad_place, b""))
+    yield refused(6, under.po(key, pack, bad_place, block))
+    yield refused(8, under.po(key, pack, place, bad_block))
+    yield from under.pair(key, pack, place, b"")
 
     # Several at once. A key with a byte more and a payload of 495, or a block
     # of 511, have together the bytes of good ones.
     for wrong in (draw(key_length - 1), draw(key_length + 1)):
-        yield refused(1, ps_case(wrong, pack, place, over))
-        yield refused(1, ps_case(wrong, pack, bad_place, payload))
-        yield refused(1, ps_case(wrong, pack, bad_place, over))
-        yield refused(1, po_case(wrong, pack, place, block[:511]))
-        yield refused(1, po_case(wrong, pack, bad_place, block))
-        yield refused(1, po_case(wrong, pack, bad_place, block[:511]))
-        yield refused(1, po_case(wrong, pack, place, bad_block))
-    yield refused(1, ps_case(draw(key_length + 1), pack, place, over[:495]))
-    yield refused(1, ps_case(b"", 0, 0, b""))
-    yield refused(1, po_case(b"", 0, 0, b""))
-    yield refused(5, ps_case(key, pack, bad_place, over))
+        yield refused(1, under.ps(wrong, pack, place, over))
+        yield refused(1, under.ps(wrong, pack, bad_place, payload))
+        yield refused(1, under.ps(wrong, pack, bad_place, over))
+        yield refused(1, under.po(wrong, pack, place, block[:511]))
+        yield refused(1, under.po(wrong, pack, bad_place, block))
+        yield refused(1, under.po(wrong, pack, bad_place, block[:511]))
+        yield refused(1, under.po(wrong, pack, place, bad_block))
+    yield refused(1, under.ps(draw(key_length + 1), pack, place, over[:495]))
+    yield refused(1, under.ps(b"", 0, 0, b""))
+    yield refused(1, under.po(b"", 0, 0, b""))
+    yield refused(5, under.ps(key, pack, bad_place, over))
     for length in (0, 511, 513):
-        yield refused(7, po_case(key, pack, bad_place, (2 * block)[:length]))
-    yield refused(6, po_case(key, pack, bad_place, bad_block))
-    yield refused(7, po_case(key, pack, place, bytes(511)))
-    yield from pair(key, pack, place, payload[:17])
+        yield refused(7, under.po(key, pack, bad_place, (2 * block)[:length]))
+    yield refused(6, under.po(key, pack, bad_place, bad_block))
+    yield refused(7, under.po(key, pack, place, bytes(511)))
+    yield from under.pair(key, pack, place, payload[:17])
 
 
 def longest_cases():
     """The longest line that is understood."""
     draw = byte_drawer("pack: longest")
     key, pack, place = draw(16), number(draw(8)), number(draw(2))
-    longest = ps_case(key, pack, place, draw(MOST_BYTES - 16))
+    longest = HCH.ps(key, pack, place, draw(MOST_BYTES - 16))
     assert len(longest[0]) == LONGEST
     yield refused(5, longest)
-    yield from pair(key, pack, place, draw(16))
+    yield from HCH.pair(key, pack, place, draw(16))
 
 
 def line_cases():
@@ -375,7 +348,7 @@ def line_cases():
     draw = byte_drawer("pack: lines")
     key, pack, place = draw(16), number(draw(8)), number(draw(2))
     payload = draw(20)
-    block = seal(key, payload, pack, place)
+    block = HCH.seal(key, payload, pack, place)
     k, n, p = key.hex(), f"{pack:016x}", f"{place:08x}"
 
     for name, last in (("ps", payload), ("po", block)):
@@ -398,7 +371,7 @@ def line_cases():
             (k, n, p[:7] + "A", d), (k, n, p, d[:-1] + "F"),
         ):
             yield line(name, *bad), NO
-        yield from pair(draw(16), pack, place, draw(33))
+        yield from HCH.pair(draw(16), pack, place, draw(33))
 
     d = payload.hex()
     for bad in (
@@ -425,11 +398,11 @@ def line_cases():
     for name in (b"p", b"s", b"px", b"pe", b"PS", b"pO", b"pss", b"sp",
                  b"hs", b"p s", b"ps\0"):
         yield name + b" " + good, NO
-    yield ps_case(draw(16), pack, place, draw(34))
+    yield HCH.ps(draw(16), pack, place, draw(34))
 
     # Understood: a line that ends in the space before an empty field.
-    yield refused(7, po_case(key, pack, place, b""))
-    yield from pair(key, pack, place, b"")
+    yield refused(7, HCH.po(key, pack, place, b""))
+    yield from HCH.pair(key, pack, place, b"")
 
 
 UNDERSTOOD = re.compile(rb"p[so] (D{2})* D{16} D{8} (D{2})*".replace(

@@ -22,8 +22,8 @@ import re
 
 import runs
 from cases_hch import other_bit
-from cases_lent import HIGH_PLACES, answers, case, leaves, several
-from cases_pack import (LAST_PACK, by_hand, fields, nonzero, number, with_bit,
+from cases_lent import HIGH_PLACES, answers, leaves, several
+from cases_pack import (LAST_PACK, by_hand, nonzero, number, with_bit,
                         with_bytes)
 from finding import MOST_BLOCKS
 from hch import KEY_LENGTHS, Refused
@@ -31,6 +31,7 @@ from lines import (LONGEST, NO, WRONG_KEYS, byte_drawer, digits, gather, line,
                    misread, sharing_halves, under_each_key)
 from pack import LAST_PLACE, MOST, SIZE, plain_block, seal
 from runs import Failed, first_failure, open_run, parts, seal_run, spoil
+from schemes import fields, lent_case
 
 PLACES = 1 << 32  # a place has 32 bits
 LARGEST = 65535  # the largest entry of a list
@@ -52,8 +53,8 @@ def entries(lengths):
 
 
 def rs_case(key, pack, first, lengths, run):
-    return case(fields("rs", key, pack, first, entries(lengths), run), run,
-                seal_run, key, pack, first, lengths, run)
+    text = fields("rs", key, pack, first, entries(lengths), run)
+    return lent_case(text, run, seal_run, key, pack, first, lengths, run)
 
 
 def ro_case(key, pack, first, lengths, run):

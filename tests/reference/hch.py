@@ -19,6 +19,7 @@ from aes import xor
 
 N = 128  # the paper's n
 LEAST, MOST = 16, 4096  # bytes: "an admitted length is 16 to 4,096 bytes"
+TOO_SHORT = 3  # "data under 16 bytes"
 KEY_LENGTHS = (16, 32)  # bytes: "must accept 16 or 32 bytes"
 
 
@@ -38,15 +39,16 @@ def look_at_key(key):
         raise Refused(1)
 
 
-def look_at(key, tweak, data):
+def look_at(key, tweak, data, least=LEAST, too_short=TOO_SHORT):
     """"Where several conditions hold, the first in the order below is the one
-    returned": "HCH looks at 1, 2, 3, 4 in this order".
+    returned": "HCH looks at 1, 2, 3, 4 in this order". The scheme of
+    forward.py has another least length, and another number for less.
     """
     look_at_key(key)
     if len(tweak) != 16:
         raise Refused(2)
-    if len(data) < LEAST:
-        raise Refused(3)
+    if len(data) < least:
+        raise Refused(too_short)
     if len(data) > MOST:
         raise Refused(4)
 
@@ -183,10 +185,10 @@ def decipher(K, T, data):
     return b"".join([P_1, *P, P_m])
 
 
-def number_of(key, tweak, data):
+def number_of(key, tweak, data, directions=(encipher, decipher)):
     """The number of the refusal, the same both ways, or 0."""
     numbers = []
-    for direction in (encipher, decipher):
+    for direction in directions:
         try:
             direction(key, tweak, data)
             numbers.append(0)
@@ -251,15 +253,20 @@ def check():
         check_numbers(key, T)
 
 
-def check_numbers(K, T):
+def check_numbers(K, T, directions=(encipher, decipher), least=LEAST,
+                  too_short=TOO_SHORT):
     """The table's small examples, and the order of the numbers."""
-    zeros = bytes(16)
+    def number(*call):
+        return number_of(*call, directions)
+
+    zeros = bytes(least)
     for length in range(65):
-        assert number_of(bytes(length), T, zeros) == (
+        assert number(bytes(length), T, zeros) == (
             0 if length in (16, 32) else 1)
-    assert number_of(K, b"", zeros) == 2
-    assert number_of(K, T, bytes(15)) == number_of(K, T, b"") == 3
-    assert number_of(K, T, bytes(4097)) == 4
-    for data in (bytes(15), zeros, bytes(4097)):
-        assert number_of(b"", b"", data) == number_of(b"", T, data) == 1
-        assert number_of(K, b"", data) == 2
+    assert number(K, b"", zeros) == 2
+    for length in range(least):
+        assert number(K, T, bytes(length)) == too_short
+    assert number(K, T, bytes(4097)) == 4
+    for data in (bytes(least - 1), zeros, bytes(4097)):
+        assert number(b"", b"", data) == number(b"", T, data) == 1
+        assert number(K, b"", data) == 2

@@ -23,6 +23,7 @@ import cases_aes  # noqa: E402
 import cases_boardline  # noqa: E402
 import cases_field  # noqa: E402
 import cases_finding  # noqa: E402
+import cases_forward  # noqa: E402
 import cases_hch  # noqa: E402
 import cases_lent  # noqa: E402
 import cases_pack  # noqa: E402
@@ -31,7 +32,7 @@ from lines import NO  # noqa: E402
 
 PROGRAMS = {
     "vectors": [cases_field, cases_aes, cases_hch, cases_pack, cases_finding,
-                cases_lent, cases_runs],
+                cases_lent, cases_runs, cases_forward],
     "boardline": [cases_boardline],
 }
 

@@ -1,6 +1,7 @@
 """The 512-byte block, written from 01-scope.md alone; when it is blank, from
 Point 4 of 02-change-requests.md.
 
+A block is sealed and opened under HCH where no other scheme is passed in.
 The pack number and the place are ints, of 64 and of 32 bits; "numbers are
 big-endian". The payload and the block are bytes objects, so that a call that
 is not done leaves them as they were: it raises Refused, with its number in 01
@@ -54,7 +55,7 @@ def passes(plain, pack, place):
 
 
 @functools.cache
-def seal(key, payload, pack, place, length=SIZE):
+def seal(key, payload, pack, place, length=SIZE, encipher=hch.encipher):
     """The sealed block. "Sealing looks at 1, 7, 5, 6." Of the lent block only
     the length is given, as "what the lent block held before has no effect".
     """
@@ -65,7 +66,7 @@ def seal(key, payload, pack, place, length=SIZE):
         raise Refused(5)
     if place > LAST_PLACE:
         raise Refused(6)
-    return hch.encipher(
+    return encipher(
         key, tweak(pack, place), plain_block(payload, pack, place))
 
 
@@ -74,7 +75,7 @@ def open(key, pack, place, block, decipher=hch.decipher):
     lent bytes and returns u": here it returns both. "If the check fails and
     all 512 lent bytes are zero, the slot is called blank. A zero block that
     passes its check is opened as any other." "New numbers: 12, blank, in the
-    place of 8 under the condition above." check_blank() has another decipher.
+    place of 8 under the condition above." check_blank() has other deciphers.
     """
     look_at_key(key)
     if len(block) != SIZE:
@@ -97,12 +98,9 @@ def number_of(call, *arguments):
 
 
 def check():
-    """The examples P12 to P14 of 01, its numbers and edges, that opening
-    undoes sealing, and that the check passes plain blocks alone.
+    """The examples P12 to P14 of 01, that the check passes plain blocks alone,
+    what a block of zeros is, and the two calls under HCH.
     """
-    rng = random.Random("pack: check")
-    keys = [rng.randbytes(length) for length in KEY_LENGTHS]
-
     assert tweak(1, 258) == bytes.fromhex(  # P12
         "00 00 00 00 00 00 00 01 00 00 00 00 00 00 01 02")
     assert plain_block(b"", 0, 0) == bytes(512)  # P13
@@ -110,22 +108,16 @@ def check():
     assert plain[-8:] == bytes.fromhex("00 00 00 02 00 03 00 00")
     assert plain[:4] == b"ABC\x00" and plain[496:504] == bytes(7) + b"\x01"
 
-    # "Payloads of 0 and 496 bytes are sealed; place 65,535 is sealed."
-    lengths = (0, 1, 16, 495, 496)
-    packs = (0, 1, rng.getrandbits(64), (1 << 64) - 1)
-    places = (0, 258, LAST_PLACE)
-    for i in range(24):
-        length, pack, place = lengths[i % 5], packs[i % 4], places[i % 3]
-        key = keys[i // 12]
-        payload = rng.randbytes(length)
-        block = seal(key, payload, pack, place)
-        assert len(block) == SIZE
-        u, plain = open(key, pack, place, block)
-        assert (u, plain[:u]) == (length, payload)
-        assert plain == plain_block(payload, pack, place)
+    check_passes()
+    check_blank()
+    check_under(hch.encipher, hch.decipher)
 
-    # A bit of each byte in turn, and each u: the block passes exactly if it
-    # is the plain block of a payload, which can only be its first bytes.
+
+def check_passes():
+    """A bit of each byte in turn, and each u: a block passes exactly if it is
+    the plain block of a payload, which can only be its first bytes.
+    """
+    rng = random.Random("pack: passes")
     pack, place = rng.getrandbits(64), 258
     plain = plain_block(rng.randbytes(20), pack, place)
     others = [plain[:i] + bytes([plain[i] ^ 1 << i % 8]) + plain[i + 1:]
@@ -142,14 +134,41 @@ def check():
     # numbers, 20, 21, 495 and 496.
     assert passed == 20 + 1 + 4
 
+
+def check_under(encipher, decipher):
+    """The two calls under a scheme: that opening undoes sealing, and their
+    numbers.
+    """
+    rng = random.Random("pack: check")
+    keys = [rng.randbytes(length) for length in KEY_LENGTHS]
+    under = (functools.partial(seal, encipher=encipher),
+             functools.partial(open, decipher=decipher))
     for key in keys:
-        check_numbers(key)
-        check_blank(key)
+        check_undone(key, *under)
+        check_numbers(key, *under)
 
 
-def check_numbers(key):
-    """The table's small examples, and the order of sealing; cases_pack.py has
-    that of opening.
+def check_undone(key, seal, open):
+    """"Payloads of 0 and 496 bytes are sealed; place 65,535 is sealed", and
+    opening gives the payload back.
+    """
+    rng = random.Random("pack: undone")
+    lengths = (0, 1, 16, 495, 496)
+    packs = (0, 1, rng.getrandbits(64), (1 << 64) - 1)
+    places = (0, 258, LAST_PLACE)
+    for i in range(12):
+        length, pack, place = lengths[i % 5], packs[i % 4], places[i % 3]
+        payload = rng.randbytes(length)
+        block = seal(key, payload, pack, place)
+        assert len(block) == SIZE
+        u, plain = open(key, pack, place, block)
+        assert (u, plain[:u]) == (length, payload)
+        assert plain == plain_block(payload, pack, place)
+
+
+def check_numbers(key, seal, open):
+    """The table's small examples, the order of sealing, and what comes before
+    number 12; cases_pack.py has the order of opening.
     """
     payload, block = b"ABC", seal(key, b"ABC", 1, 3)
     assert number_of(seal, b"\x00", payload, 1, 3) == 1
@@ -165,19 +184,20 @@ def check_numbers(key):
     assert number_of(seal, key, bytes(497), 1, 65536, 511) == 7
     assert number_of(seal, key, bytes(497), 1, 65536) == 5
 
-
-def check_blank(key):
-    """Point 4's number, and what comes before it. A zero block passes its
-    check under one key in 2^128 or so, and none is known: that such a block is
-    opened is shown with another function in the place of deciphering, and no
-    stored case can show it.
-    """
     zeros = bytes(SIZE)
     for pack, place in ((0, 0), (1, 5), ((1 << 64) - 1, LAST_PLACE)):
         assert number_of(open, key, pack, place, zeros) == 12
         assert number_of(open, key[1:], pack, place, zeros) == 1
         assert number_of(open, key, pack, place, zeros[1:]) == 7
         assert number_of(open, key, pack, 65536, zeros) == 6
+
+
+def check_blank():
+    """Point 4's number. A zero block passes its check under one key in 2^128
+    or so, and none is known: that such a block is opened is shown with another
+    function in the place of deciphering, and no stored case can show it.
+    """
+    key, zeros = bytes(16), bytes(SIZE)
 
     def same(key, tweak, block):
         """Each block deciphers to itself, so that zeros pass for pack 0 and

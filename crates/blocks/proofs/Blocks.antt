@@ -3,7 +3,7 @@
 use Prim.Native.Nat.{ℕ, zero, suc, _+_, _*_, _/_, _%_, _-_, _^_, _≤_, _<_}
 use mathlib.Core.Path.{_≡_, refl, ap}
 use mathlib.Core.List.{List, [], _∷_, append-nil}
-use native.Mathlib.Nat.{mod-eq-of-lt}
+use native.Mathlib.Nat.{mod-eq-of-lt, mod-lt}
 use native.Mathlib.Omega.{arith}
 use lib.Arith.{digits-mod}
 use lib.Pow.{pow-pos}
@@ -13,7 +13,11 @@ use Rattle.strings.specs.Bytes.{Below, Bytes, number}
 use Rattle.strings.specs.Inner.{padded}
 use Rattle.strings.proofs.Bytes.{below-drop, number-below, number-append, length-padded, padded-below, padded-add, take-zeros}
 use Rattle.strings.proofs.Place.{number-fits}
-use Rattle.blocks.specs.Blocks.{pad, firstBlock, cut, blocks}
+use Rattle.blocks.specs.Blocks.{IsBlock, bin, pad, firstBlock, cut, blocks}
+
+pub bin-below : (l : ℕ) → IsBlock (bin l)
+unfolding bin
+bin-below l = mod-lt l (pow-pos 128)
 
 pub block-padded : (s : List ℕ) → firstBlock s ≡ number (padded 16 s)
 unfolding firstBlock pad

@@ -17,7 +17,7 @@ use Rattle.blocks.proofs.Blocks.{blocks-cons}
 
 module _ {k one : ℕ} {_·_ : ℕ → ℕ → ℕ} (ring : Ring k one _·_) where
   infixl 70 _·_
-  power-below : (R n : ℕ) → R < 2 ^ k → power one _·_ R n < 2 ^ k
+  pub power-below : (R n : ℕ) → R < 2 ^ k → power one _·_ R n < 2 ^ k
   unfolding power
   power-below R zero h = ring .one-below
   power-below R (suc n) h = ring .below R (power one _·_ R n) h

@@ -1,5 +1,6 @@
 pub mod Blocks
 pub mod Counter
+pub mod Fronts
 pub mod Ring
 pub mod Horner
 pub mod Halves

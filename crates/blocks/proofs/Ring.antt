@@ -11,6 +11,7 @@ use lib.Arith.{lt-one}
 use lib.Dec.{lit<}
 use lib.Pow.{pow-pos, pow-lt}
 use Rattle.strings.specs.Xor.{_⊕_}
+use Rattle.blocks.specs.Counter.{φ}
 use Rattle.blocks.specs.Field.{times01, timesX, productN, product, power, Ring}
 use Rattle.blocks.specs.BlockField.{_·_}
 use Rattle.strings.proofs.Xor.{xor-laws, xor-comm, xor-shr, xor-mod, xor-parts, xor-disjoint, xor-below, xor-zero, xor-zero-left, xor-self}
@@ -111,33 +112,32 @@ module _ (k p : ℕ) where
 
   -- ---- n times x
 
-  unfoldable pub xs : ℕ → ℕ → ℕ
-  xs zero a = a
-  xs (suc n) a = timesX k p (xs n a)
+  abbrev pub xs : ℕ → ℕ → ℕ
+  xs n a = φ (timesX k p) a n
 
   pub xs-add : (n : ℕ) → Additive (xs n)
-  unfolding xs
+  unfolding φ
   xs-add zero a b = refl
   xs-add (suc n) a b = rw (xs-add n a b) (x-add (xs n a) (xs n b))
 
   xs-x : (n a : ℕ) → xs n (timesX k p a) ≡ timesX k p (xs n a)
-  unfolding xs
+  unfolding φ
   xs-x zero a = refl
   xs-x (suc n) a = ap (timesX k p) (xs-x n a)
 
   xs-swap : (m n a : ℕ) → xs m (xs n a) ≡ xs n (xs m a)
-  unfolding xs
+  unfolding φ
   xs-swap m zero a = refl
   xs-swap m (suc n) a = xs-x m (xs n a) ∙ ap (timesX k p) (xs-swap m n a)
 
   pub xs-one : (n : ℕ) → n < k → xs n 1 ≡ 2 ^ n
-  unfolding xs
+  unfolding φ
   xs-one zero h = refl
   xs-one (suc n) h =
       rw (xs-one n (le-of-lt h)) (x-small (2 ^ n) (rw (pow-double n) (pow-lt h)) ∙ pow-double n)
 
   pub xs-top : 0 < k → xs k 1 ≡ p
-  unfolding xs
+  unfolding φ
   xs-top h =
       let e : suc (pred k) ≡ k = suc-pred-eq-of-pos h in
       subst (λ (n : ℕ). xs n 1 ≡ p) e (rw (xs-one (pred k) (le-of-eq e)) (x-top (pred k) e))
@@ -165,7 +165,7 @@ module _ (k p : ℕ) where
   prod-x (suc n) a b = rw (prod-x n a (b / 2)) (simp (x-add, x-times01))
 
   prod-xs : (m n a b : ℕ) → productN k p n (xs m a) b ≡ xs m (productN k p n a b)
-  unfolding xs
+  unfolding φ
   prod-xs zero n a b = refl
   prod-xs (suc m) n a b = prod-x n (xs m a) b ∙ ap (timesX k p) (prod-xs m n a b)
 
@@ -174,7 +174,7 @@ module _ (k p : ℕ) where
 
   -- a times 2 ^ i is i times x
   pub prod-pow : (n i a : ℕ) → i < n → productN k p n a (2 ^ i) ≡ xs i a
-  unfolding productN xs times01
+  unfolding productN φ times01
   prod-pow zero i a h = absurd (not-suc-le-zero h)
   prod-pow (suc n) zero a h = rw (prod-zero n a, x-zero) (xor-zero a)
   prod-pow (suc n) (suc i) a h =
@@ -199,7 +199,7 @@ module _ (k p : ℕ) where
         (λ i h. rw (xs-left i h p hp, ← xs-one i h) (xs-swap k i 1 ∙ ap (xs i) (xs-top hk)))
 
     x-right : (a : ℕ) → a < 2 ^ k → (b : ℕ) → b < 2 ^ k → product k p a (timesX k p b) ≡ timesX k p (product k p a b)
-    unfolding product xs
+    unfolding product φ
     x-right a ha =
         basis k (λ b. product k p a (timesX k p b)) (λ b. timesX k p (product k p a b))
         (λ b c. rw (x-add b c) (prod-add-right k a (timesX k p b) (timesX k p c)))
@@ -213,12 +213,12 @@ module _ (k p : ℕ) where
         inside i l = rw (x-small (2 ^ i) (rw (pow-double i) (pow-lt l)), pow-double i) (prod-pow k (suc i) a l)
 
     xs-below : (n a : ℕ) → a < 2 ^ k → xs n a < 2 ^ k
-    unfolding xs
+    unfolding φ
     xs-below zero a h = h
     xs-below (suc n) a h = x-below hp (xs n a)
 
     xs-right : (a : ℕ) → a < 2 ^ k → (b : ℕ) → b < 2 ^ k → (i : ℕ) → product k p a (xs i b) ≡ xs i (product k p a b)
-    unfolding xs
+    unfolding φ
     xs-right a ha b hb zero = refl
     xs-right a ha b hb (suc i) = x-right a ha (xs i b) (xs-below i b hb) ∙ ap (timesX k p) (xs-right a ha b hb i)
 
@@ -228,15 +228,20 @@ module _ (k p : ℕ) where
     x-left a h = prod-x k 1 a ∙ ap (timesX k p) (one-left a h)
 
     powers : (n : ℕ) → power 1 (product k p) (timesX k p 1) n ≡ xs n 1
-    unfolding power xs
+    unfolding power φ
     powers zero = refl
     powers (suc n) = rw (powers n) (x-left (xs n 1) (xs-below n 1 (pow-lt hk)))
+
+    -- φ_β(i) is the ith power of x, times β
+    pub phi-power : (β : ℕ) → β < 2 ^ k → (i : ℕ) → φ (timesX k p) β i ≡ product k p (power 1 (product k p) (timesX k p 1) i) β
+    unfolding product
+    phi-power β h i = rw (powers i, prod-xs i k 1 β) (ap (xs i) (sym (one-left β h)))
 
     pub x-power : power 1 (product k p) (timesX k p 1) k ≡ p
     x-power = powers k ∙ xs-top hk
 
     pub ring : Ring k 1 (product k p)
-    unfolding product xs
+    unfolding product φ
     ring = record {
       one-below = pow-lt hk;
       below = prod-below hp k;

@@ -11,6 +11,7 @@ theorems = record {
   x-to-the-k = Ring.x-power;
   ring-of-blocks = Ring.ring-of-blocks;
   ring-of-bytes = Ring.ring-of-bytes;
+  phi-power = λ k p hk hp β i h. Ring.phi-power k p hk hp β h i;
   horner-rule = λ k one _·_ ring. Horner.horner-rule ring;
   counter-mode = counter-cipher;
 }

@@ -1,10 +1,13 @@
-// 01's four functions for the app in C, and 02's finding and runs. include/boards.h declares and explains them; a slice is there a pointer and a length, and `failed` a
-// pointer. Each answers the number of the call that it makes, 0 where the work was done, and carries that call's promises.
+// 01's four functions for the app in C, 02's finding and runs, and 01's four under the encryption-only scheme. include/boards.h declares and explains them; a slice
+// is there a pointer and a length, and `failed` a pointer. Each answers the number of the call that it makes, 0 where the work was done, and carries that call's promises.
 ghost use mathlib.Core.Path.{_≡_};
 ghost use lib.ListN.{length};
 ghost use Rattle.strings.specs.Call.{numberOf, leftBy};
 ghost use Rattle.hch.specs.Hch.{enciphered, deciphered, hch as scheme};
 ghost use Rattle.hch.specs.Call.{answerOf, IsCipher, OnePlaintext};
+ghost use Rattle.strings.specs.Message.{IsCipher as IsCipherOf, OnePlaintext as OnePlaintextOf};
+ghost use Rattle.forward.specs.Forward.{enciphered as forwardEnciphered, deciphered as forwardDeciphered, forward};
+ghost use Rattle.forward.specs.Call.{answerOf as answerOfForward};
 ghost use Rattle.layout.specs.Finding.{blockCount, answerOf as answerOfFinding};
 ghost use Rattle.pack.specs.Sealing.{seal, answerOf as answerOfSealing};
 ghost use Rattle.pack.specs.Opening.{decipheredBlock, numberOf as numberOfOpening, answerOf as answerOfOpening, OneBlock, Meaning};
@@ -33,7 +36,7 @@ pub extern "C" fn boards_decipher(key: &[u8], tweak: &[u8], ciphertext: &mut [u8
     hch::decipher(key, tweak, ciphertext).number()
 }
 
-// Seals a payload into the lent block for a pack and a place. What it leaves where the work was done is the one block that opens to them.
+// Seals a payload by HCH into the lent block for a pack and a place. What it leaves where the work was done is the one block that opens to them.
 #[no_mangle]
 pub extern "C" fn boards_seal(
     key: &[u8],
@@ -49,7 +52,7 @@ pub extern "C" fn boards_seal(
     pack::seal(key, payload, pack, place, block).number()
 }
 
-// Opens the lent block as that of a pack and a place. The payload and its length u are read from the block that it leaves.
+// Opens the lent block by HCH as that of a pack and a place. The payload and its length u are read from the block that it leaves.
 #[no_mangle]
 pub extern "C" fn boards_open(key: &[u8], pack: u64, place: u32, block: &mut [u8]) -> u32
     ensures { λ r. ⌜ r ≡ numberOfOpening (answerOfOpening scheme (now (key .entry)) pack place (now (block .entry))) ⌝ }
@@ -107,4 +110,51 @@ pub extern "C" fn boards_open_run(
         *failed = place;
     }
     number
+}
+
+// Enciphers the message in place by the encryption-only scheme.
+#[no_mangle]
+pub extern "C" fn boards_forward_encipher(key: &[u8], tweak: &[u8], message: &mut [u8]) -> u32
+    ensures { λ r. ⌜ r ≡ numberOf (answerOfForward (now (key .entry)) (now (tweak .entry)) (now (message .entry))) ⌝ }
+    ensures { λ r. ⌜ now (message .exit) ≡ leftBy r (forwardEnciphered (now (key .entry)) (now (tweak .entry)) (now (message .entry))) (now (message .entry)) ⌝ }
+    ensures { λ r. ⌜ IsCipherOf forward r (now (key .entry)) (now (tweak .entry)) (length (now (message .entry))) ⌝ }
+{
+    forward::encipher(key, tweak, message).number()
+}
+
+// Deciphers the ciphertext in place by the encryption-only scheme. What it leaves where the work was done is the one message that enciphers to what was lent.
+#[no_mangle]
+pub extern "C" fn boards_forward_decipher(key: &[u8], tweak: &[u8], ciphertext: &mut [u8]) -> u32
+    ensures { λ r. ⌜ r ≡ numberOf (answerOfForward (now (key .entry)) (now (tweak .entry)) (now (ciphertext .entry))) ⌝ }
+    ensures { λ r. ⌜ now (ciphertext .exit) ≡ leftBy r (forwardDeciphered (now (key .entry)) (now (tweak .entry)) (now (ciphertext .entry))) (now (ciphertext .entry)) ⌝ }
+    ensures { λ r. ⌜ IsCipherOf forward r (now (key .entry)) (now (tweak .entry)) (length (now (ciphertext .entry))) ⌝ }
+    ensures { λ r. ⌜ OnePlaintextOf forward r (now (key .entry)) (now (tweak .entry)) (now (ciphertext .entry)) (now (ciphertext .exit)) ⌝ }
+{
+    forward::decipher(key, tweak, ciphertext).number()
+}
+
+// Seals as boards_seal does, by the encryption-only scheme.
+#[no_mangle]
+pub extern "C" fn boards_forward_seal(
+    key: &[u8],
+    payload: &[u8],
+    pack: u64,
+    place: u32,
+    block: &mut [u8],
+) -> u32
+    ensures { λ r. ⌜ r ≡ numberOf (answerOfSealing forward (now (key .entry)) (now (payload .entry)) place (now (block .entry))) ⌝ }
+    ensures { λ r. ⌜ now (block .exit) ≡ leftBy r (seal forward (now (key .entry)) (now (payload .entry)) pack place) (now (block .entry)) ⌝ }
+    ensures { λ r. ⌜ (r ≡ 0 → OneBlock forward (now (key .entry)) (now (payload .entry)) pack place (now (block .exit))) ⌝ }
+{
+    pack::forward_seal(key, payload, pack, place, block).number()
+}
+
+// Opens as boards_open does, by the encryption-only scheme.
+#[no_mangle]
+pub extern "C" fn boards_forward_open(key: &[u8], pack: u64, place: u32, block: &mut [u8]) -> u32
+    ensures { λ r. ⌜ r ≡ numberOfOpening (answerOfOpening forward (now (key .entry)) pack place (now (block .entry))) ⌝ }
+    ensures { λ r. ⌜ now (block .exit) ≡ leftBy r (decipheredBlock forward (now (key .entry)) pack place (now (block .entry))) (now (block .entry)) ⌝ }
+    ensures { λ r. ⌜ Meaning forward r (now (key .entry)) pack place (now (block .entry)) (now (block .exit)) ⌝ }
+{
+    pack::forward_open(key, pack, place, block).number()
 }

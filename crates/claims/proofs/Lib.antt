@@ -9,4 +9,5 @@ pub mod Point1
 pub mod Point2
 pub mod Point3
 pub mod Point4
+pub mod Point5
 pub mod Program

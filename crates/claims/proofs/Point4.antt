@@ -21,7 +21,7 @@ use Rattle.claims.proofs.Demand3.{hch-pack}
 use Rattle.claims.proofs.Point2.{run-unopened}
 
 block-unopened : (key : List ℕ) (pack place : ℕ) (C : List ℕ) → IsKey key → OfLength 512 C → place ≤ 65535
-    → Unopened hch (ofOpening key pack place C) key pack place C
+    → Unopened hch (ofOpening hch key pack place C) key pack place C
 block-unopened key pack place C k h l = hch-pack key k .unopened pack place C (h .1) (is-key key k) (h .0) l
 
 zeros-opened : (numberOf (answerOf unchanged [] 0 0 zeros) ≡ 0) × (valuesOf (answerOf unchanged [] 0 0 zeros) ≡ 0 ∷ [])
@@ -47,11 +47,11 @@ zeros-first = (refl, refl)
 pub point-4 : Point4
 point-4 = record {
   zero-opened = λ key pack place k l e.
-      let done = demand-1 .open-done key pack place zeros k (length-replicate {A = ℕ} 512 0) l e in
+      let done = demand-1 .hch-opening .open-done key pack place zeros k (length-replicate {A = ℕ} 512 0) l e in
       (done .0, done .1, rw (done .0));
   eight-or-twelve = λ key pack place C k h l. block-unopened key pack place C k h l .eight-or-twelve;
   twelve = λ key pack place C k h l. block-unopened key pack place C k h l .twelve;
-  unopened-left = λ key pack place C e. refused-left (ofOpening key pack place C) _ C (⊎-elim (λ e8. omega (arith, e8)) (λ e12. omega (arith, e12)) e);
+  unopened-left = λ key pack place C e. refused-left (ofOpening hch key pack place C) _ C (⊎-elim (λ e8. omega (arith, e8)) (λ e12. omega (arith, e12)) e);
   run-number = λ key n pack first lengths run l b last i h m some.
       let told = run-unopened key n first lengths run l pack b last i h .first-number m some in
       (λ e place. told .0 (e, place), λ e before. told .1 (e, before));

@@ -1,5 +1,5 @@
 -- Point 4 of 02, "A row that was never saved", sentence by sentence. proofs/Point4.antt has one value of the record. How the check and the lent
--- bytes decide between 8 and 12 is in Demand1.antt, `open-8` and `open-12`.
+-- bytes decide between 8 and 12 is in Demand1.antt, `open-8` and `open-12` of OpeningNumbers.
 use Prim.Native.Nat.{ℕ, _+_, _-_, _≤_, _<_}
 use mathlib.Core.Path.{_≡_}
 use mathlib.Core.Bool.{true}
@@ -30,18 +30,18 @@ unchanged = record { isKey = λ key. true; encipher = λ key tweak message. mess
 pub record Point4 : Type 0 where
   -- ---- "A zero block that passes its check is opened as any other."
   pub zero-opened : (key : List ℕ) (pack place : ℕ) → IsKey key → place ≤ 65535 → passes pack place (decipheredBlock hch key pack place zeros) ≡ true
-      → (ofOpening key pack place zeros ≡ 0) × (valuesOf (answerOf hch key pack place zeros) ≡ used (decipheredBlock hch key pack place zeros) ∷ [])
-      × (leftBy (ofOpening key pack place zeros) (decipheredBlock hch key pack place zeros) zeros ≡ decipheredBlock hch key pack place zeros)
+      → (ofOpening hch key pack place zeros ≡ 0) × (valuesOf (answerOf hch key pack place zeros) ≡ used (decipheredBlock hch key pack place zeros) ∷ [])
+      × (leftBy (ofOpening hch key pack place zeros) (decipheredBlock hch key pack place zeros) zeros ≡ decipheredBlock hch key pack place zeros)
   -- ---- "Where 1, 7 and 6 do not apply, no payload seals to the block exactly when it is answered with 8 or blank."
   pub eight-or-twelve : (key : List ℕ) (pack place : ℕ) (C : List ℕ) → IsKey key → OfLength 512 C → place ≤ 65535
-      → (EightOrTwelve (ofOpening key pack place C) → NoneSealsTo key pack place C) × (NoneSealsTo key pack place C → EightOrTwelve (ofOpening key pack place C))
+      → (EightOrTwelve (ofOpening hch key pack place C) → NoneSealsTo key pack place C) × (NoneSealsTo key pack place C → EightOrTwelve (ofOpening hch key pack place C))
   -- "If the check fails and all 512 lent bytes are zero, the slot is called blank": it is answered with 12 exactly when no payload seals to it and it is zero.
   pub twelve : (key : List ℕ) (pack place : ℕ) (C : List ℕ) → IsKey key → OfLength 512 C → place ≤ 65535
-      → (ofOpening key pack place C ≡ 12 → NoneSealsTo key pack place C × (C ≡ zeros))
-      × (NoneSealsTo key pack place C → C ≡ zeros → ofOpening key pack place C ≡ 12)
+      → (ofOpening hch key pack place C ≡ 12 → NoneSealsTo key pack place C × (C ≡ zeros))
+      × (NoneSealsTo key pack place C → C ≡ zeros → ofOpening hch key pack place C ≡ 12)
   -- With either, the lent bytes are left as they were.
-  pub unopened-left : (key : List ℕ) (pack place : ℕ) (C : List ℕ) → EightOrTwelve (ofOpening key pack place C)
-      → leftBy (ofOpening key pack place C) (decipheredBlock hch key pack place C) C ≡ C
+  pub unopened-left : (key : List ℕ) (pack place : ℕ) (C : List ℕ) → EightOrTwelve (ofOpening hch key pack place C)
+      → leftBy (ofOpening hch key pack place C) (decipheredBlock hch key pack place C) C ≡ C
   -- ---- "a run gives the number of its first block that will not open".
   -- A number m, not 0, and the place of block i are answered exactly if block i by itself is answered with m and each block before it opens.
   pub run-number : (key : List ℕ) (n pack first : ℕ) (lengths run : List ℕ) → Lent key n lengths run → Bytes run → first + n - 1 ≤ 65535 → (i : ℕ) → i < n

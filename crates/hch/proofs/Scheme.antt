@@ -3,25 +3,20 @@
 use Prim.Native.Nat.{ℕ, _-_, _*_, _≤_}
 use mathlib.Core.Path.{_≡_}
 use mathlib.Core.List.{List}
-use native.Mathlib.Nat.{mod-lt}
 use lib.ListN.{length, take, drop}
-use lib.Pow.{pow-pos}
 use Rattle.strings.specs.Xor.{_⊕_}
 use Rattle.strings.specs.Bytes.{OfLength, number}
 use Rattle.blocks.specs.Blocks.{blocks, IsBlock, bin}
 use Rattle.strings.specs.Cipher.{Cipher}
 use Rattle.blocks.specs.Counter.{maskedBytes}
 use Rattle.strings.proofs.Xor.{xor-assoc, xor-comm, xor-below}
-use Rattle.blocks.proofs.Blocks.{blocks-below}
+use Rattle.blocks.proofs.Blocks.{bin-below, blocks-below}
 use Rattle.blocks.proofs.Counter.{counter-cipher}
+use Rattle.blocks.proofs.Fronts.{one-block}
 use Rattle.strings.proofs.Pass.{pass, pass-cipher}
 use Rattle.strings.proofs.Permutations.{agreeing}
 use Rattle.hch.specs.Hch.{lengthBlock, H, Ctr, encipher, decipher, Parts}
 use Rattle.hch.specs.Inner.{ctrBytes, fromI}
-
-bin-below : (l : ℕ) → IsBlock (bin l)
-unfolding bin
-bin-below l = mod-lt l (pow-pos 128)
 
 -- The counter step is its own inverse.
 ctr-cipher : (E : ℕ → ℕ) (S n : ℕ) → Cipher n (ctrBytes E S) (ctrBytes E S)
@@ -39,15 +34,15 @@ first-first sum R Q A₁ s = rw (xor-comm Q A₁, xor-assoc)
 -- From the first hash on, either direction is one pass: F is E or D, and the two keys of the hashes are Q and xQ, or xQ and Q.
 one-pass : (E F : ℕ → ℕ) (sum : ℕ → List ℕ → ℕ) (R Q Q′ : ℕ) (s : List ℕ)
     → let a = H sum R Q (number (take 16 s)) (blocks (drop 16 s)) in
-    fromI E sum R Q′ (a ⊕ F a) (F a) (drop 16 s) ≡ pass 16 F (others sum R Q) (others sum R Q′) (λ I. ctrBytes E (E I)) s
-unfolding fromI pass
+    fromI E sum R Q′ (a ⊕ F a) (F a) (drop 16 s) ≡ pass one-block F (others sum R Q) (others sum R Q′) (λ I. ctrBytes E (E I)) s
+unfolding fromI pass one-block
 one-pass E F sum R Q Q′ s =
     let a : ℕ = number (take 16 s) ⊕ others sum R Q (drop 16 s) in
     rw (first-first sum R Q (number (take 16 s)) (drop 16 s), first-first sum R Q′ (F a) (ctrBytes E (E (a ⊕ F a)) (drop 16 s)))
 
 encipher-pass : (E timesX : ℕ → ℕ) (sum : ℕ → List ℕ → ℕ) (T : ℕ) (s : List ℕ)
     → let Q = E (E T ⊕ lengthBlock (length s)) in
-    encipher E timesX sum T s ≡ pass 16 E (others sum (E T) Q) (others sum (E T) (timesX Q)) (λ I. ctrBytes E (E I)) s
+    encipher E timesX sum T s ≡ pass one-block E (others sum (E T) Q) (others sum (E T) (timesX Q)) (λ I. ctrBytes E (E I)) s
 unfolding encipher fromI ctrBytes maskedBytes Ctr
 encipher-pass E timesX sum T s =
     let Q = E (E T ⊕ lengthBlock (length s)) in
@@ -55,7 +50,7 @@ encipher-pass E timesX sum T s =
 
 decipher-pass : (E D timesX : ℕ → ℕ) (sum : ℕ → List ℕ → ℕ) (T : ℕ) (s : List ℕ)
     → let Q = E (E T ⊕ lengthBlock (length s)) in
-    decipher E D timesX sum T s ≡ pass 16 D (others sum (E T) (timesX Q)) (others sum (E T) Q) (λ I. ctrBytes E (E I)) s
+    decipher E D timesX sum T s ≡ pass one-block D (others sum (E T) (timesX Q)) (others sum (E T) Q) (λ I. ctrBytes E (E I)) s
 unfolding decipher fromI ctrBytes maskedBytes Ctr
 decipher-pass E D timesX sum T s =
     let Q = E (E T ⊕ lengthBlock (length s)) in
@@ -80,5 +75,5 @@ module _ {E D timesX : ℕ → ℕ} {sum : ℕ → List ℕ → ℕ} (parts : Pa
       agreeing
       (λ s h. rw (h .0) at (encipher-pass E timesX sum T s))
       (λ s h. rw (h .0) at (decipher-pass E D timesX sum T s))
-      (pass-cipher l (others-below Q key-below) (others-below (timesX Q) (parts .step-keeps Q key-below))
+      (pass-cipher one-block l (others-below Q key-below) (others-below (timesX Q) (parts .step-keeps Q key-below))
       (λ I. ctr-cipher E (E I) (n - 16)) (parts .permutation))

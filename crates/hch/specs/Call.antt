@@ -1,28 +1,19 @@
 -- The two calls: what they answer.
 use Prim.Native.Nat.{ℕ}
-use mathlib.Core.Path.{_≡_}
-use mathlib.Core.Bool.{not}
-use mathlib.Core.List.{List, [], _∷_}
-use lib.Dec.{ltb, eqb}
-use lib.ListN.{length}
-use Rattle.strings.specs.Cipher.{Cipher}
-use Rattle.strings.specs.One.{OnePreimage}
+use mathlib.Core.List.{List}
 use Rattle.strings.specs.Call.{Tests, looksAt}
+use Rattle.strings.specs.Message as Message
 use Rattle.strings.specs.declared.refusal.Answer.{Answer}
-use Rattle.strings.specs.declared.refusal.Refusal.the-variants.{KeyLength, TweakLength, TooShort, TooLong}
-use Rattle.hch.specs.Hch.{enciphered, deciphered, hch}
+use Rattle.strings.specs.declared.refusal.Refusal.the-variants.{TooShort}
+use Rattle.hch.specs.Hch.{hch}
 
--- What is looked at behind the key.
+-- What is looked at behind the key: 01's numbers 2, 3, data under 16 bytes, and 4.
 abbrev pub testsBehindKey : (tweak message : List ℕ) → Tests
-testsBehindKey tweak message =
-    (not (eqb (length tweak) 16), TweakLength)
-    ∷ (ltb (length message) 16, TooShort)
-    ∷ (ltb 4096 (length message), TooLong)
-    ∷ []
+testsBehindKey = Message.testsBehindKey 16 TooShort
 
 -- 01, "HCH looks at 1, 2, 3, 4 in this order".
 unfoldable pub tests : (key tweak message : List ℕ) → Tests
-tests key tweak message = (not (hch .isKey key), KeyLength) ∷ testsBehindKey tweak message
+tests key tweak message = Message.tests hch 16 TooShort key tweak message
 
 abbrev pub answerOf : (key tweak message : List ℕ) → Answer
 answerOf key tweak message = looksAt (tests key tweak message)
@@ -33,8 +24,8 @@ answerBehindKey tweak message = looksAt (testsBehindKey tweak message)
 
 -- Where the call was done, enciphering and deciphering under this key and tweak are a cipher of n bytes and its inverse.
 abbrev pub IsCipher : (number : ℕ) (key tweak : List ℕ) (n : ℕ) → Type 0
-IsCipher number key tweak n = number ≡ 0 → Cipher n (enciphered key tweak) (deciphered key tweak)
+IsCipher = Message.IsCipher hch
 
 -- Demand 3: where the call was done, exactly one message of the length of C enciphers to C, and it is P.
 abbrev pub OnePlaintext : (number : ℕ) (key tweak C P : List ℕ) → Type 0
-OnePlaintext number key tweak C P = number ≡ 0 → OnePreimage (length C) (enciphered key tweak) C P
+OnePlaintext = Message.OnePlaintext hch

@@ -1,9 +1,9 @@
 -- HCH under a key that was expanded before.
 use Prim.Native.Nat.{ℕ}
-use mathlib.Core.Path.{_≡_}
 use mathlib.Core.Bool.{true}
 use mathlib.Core.List.{List, []}
-use Rattle.strings.specs.Cipher.{Cipher, Scheme}
+use Rattle.strings.specs.Cipher.{Scheme}
+use Rattle.strings.specs.Message.{IsCipher}
 use Rattle.primitives.specs.Expanded.{under}
 use Rattle.primitives.specs.declared.aes.ExpandedKey.{ExpandedKey}
 use Rattle.hch.specs.Hch.{encipheredBy, decipheredBy}
@@ -14,4 +14,4 @@ hchUnder expanded = record { isKey = λ key. true; encipher = λ key. enciphered
 
 -- Where the call was done, HCH under this expanded key and tweak is a cipher of n bytes.
 abbrev pub IsCipherUnder : (number : ℕ) (expanded : ExpandedKey) (tweak : List ℕ) (n : ℕ) → Type 0
-IsCipherUnder number expanded tweak n = number ≡ 0 → Cipher n (hchUnder expanded .encipher [] tweak) (hchUnder expanded .decipher [] tweak)
+IsCipherUnder number expanded tweak n = IsCipher (hchUnder expanded) number [] tweak n

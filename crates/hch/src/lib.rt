@@ -20,6 +20,7 @@ use primitives::aes;
 use primitives::aes::ExpandedKey;
 use primitives::aes::Expansion;
 use primitives::field;
+use strings::message;
 use strings::refusal::Answer;
 use strings::refusal::Refusal;
 
@@ -44,10 +45,7 @@ pub fn expand(key: &[u8]) -> Expansion
 fn judge(tweak: &[u8], message: &[u8]) -> Answer
     ensures { λ r. ⌜ r ≡ looksAt (testsBehindKey (now (tweak .entry)) (now (message .entry))) ⌝ }
 {
-    Answer::Done
-        .refuse_if(tweak.len() != 16, Refusal::TweakLength)
-        .refuse_if(message.len() < 16, Refusal::TooShort)
-        .refuse_if(message.len() > 4096, Refusal::TooLong)
+    message::judge(16, Refusal::TooShort, tweak, message)
 }
 
 // Step 1: Q, from R and the length in bytes.

@@ -4,6 +4,10 @@ mod opening;
 mod sealing;
 
 pub use opening::Opened;
+pub use opening::forward_open;
 pub use opening::open;
+pub use opening::open_by;
 pub use opening::open_with;
+pub use sealing::forward_seal;
 pub use sealing::seal;
+pub use sealing::seal_by;

@@ -6,12 +6,14 @@ ghost use lib.ListN.{length, take, drop};
 ghost use Rattle.strings.specs.Call.{looksAt, leftBy};
 ghost use Rattle.strings.specs.Cipher.{Scheme};
 ghost use Rattle.hch.specs.Hch.{hch as scheme};
-ghost use Rattle.hch.specs.Expanded.{hchUnder};
+ghost use Rattle.forward.specs.Forward.{forward};
+ghost use Rattle.schemes.specs.Schemes.{schemeOf, schemeUnder};
 ghost use Rattle.pack.specs.Opening.{numberOf, failure as failureOf, decipheredBlock, tests, answerOf, Meaning};
 ghost use Rattle.pack.specs.Inner.{Opens};
 use crate::cipher;
 use layout::Verdict;
 use primitives::aes::ExpandedKey;
+use schemes::SchemeName;
 use strings::refusal::Answer;
 use strings::refusal::Refusal;
 
@@ -53,41 +55,71 @@ fn failure(block: &[u8]) -> Refusal
 }
 
 // Opens a block that the first tests pass. What fails its check is enciphered again, which gives the lent bytes back, and only then are these looked at.
-fn open_block(expanded: ExpandedKey, pack: u64, place: u32, block: &mut [u8]) -> Opened
+fn open_block(
+    name: SchemeName,
+    expanded: ExpandedKey,
+    pack: u64,
+    place: u32,
+    block: &mut [u8],
+) -> Opened
     requires { ⌜ (length (now block) ≡ 512) × (place ≤ 65535) ⌝ }
-    ensures { λ r. ⌜ Opens (hchUnder expanded) [] pack place (now (block .entry)) r (now (block .exit)) ⌝ }
+    ensures { λ r. ⌜ Opens (schemeUnder name expanded) [] pack place (now (block .entry)) r (now (block .exit)) ⌝ }
 {
-    cipher::decipher(expanded, pack, place, block);
+    cipher::decipher(name, expanded, pack, place, block);
     let verdict = layout::read(pack, place, block);
     let Verdict::Passed(u) = verdict else {
-        cipher::encipher(expanded, pack, place, block);
+        cipher::encipher(name, expanded, pack, place, block);
         return Opened::Refused(failure(block));
     };
     Opened::Done(u)
 }
 
-// Opens the lent block under a key that was expanded before, or refuses and leaves it as it is.
-pub fn open_with(expanded: ExpandedKey, pack: u64, place: u32, block: &mut [u8]) -> Opened
-    ensures { λ r. ⌜ r ≡ answerOf (hchUnder expanded) [] pack place (now (block .entry)) ⌝ }
-    ensures { λ r. ⌜ now (block .exit) ≡ leftBy (numberOf r) (decipheredBlock (hchUnder expanded) [] pack place (now (block .entry))) (now (block .entry)) ⌝ }
-    ensures { λ r. ⌜ Meaning (hchUnder expanded) (numberOf r) [] pack place (now (block .entry)) (now (block .exit)) ⌝ }
+// Opens the lent block by a scheme, under a key that was expanded before, or refuses and leaves it as it is.
+pub fn open_with(
+    name: SchemeName,
+    expanded: ExpandedKey,
+    pack: u64,
+    place: u32,
+    block: &mut [u8],
+) -> Opened
+    ensures { λ r. ⌜ r ≡ answerOf (schemeUnder name expanded) [] pack place (now (block .entry)) ⌝ }
+    ensures { λ r. ⌜ now (block .exit) ≡ leftBy (numberOf r) (decipheredBlock (schemeUnder name expanded) [] pack place (now (block .entry))) (now (block .entry)) ⌝ }
+    ensures { λ r. ⌜ Meaning (schemeUnder name expanded) (numberOf r) [] pack place (now (block .entry)) (now (block .exit)) ⌝ }
 {
     let answer = judge(place, block);
     if let Answer::Refused(why) = answer {
         return Opened::Refused(why);
     }
-    open_block(expanded, pack, place, block)
+    open_block(name, expanded, pack, place, block)
 }
 
-// Opens the lent block as that of a pack and a place, or refuses and leaves it as it is.
+// Opens the lent block by a scheme as that of a pack and a place, or refuses and leaves it as it is.
+pub fn open_by(name: SchemeName, key: &[u8], pack: u64, place: u32, block: &mut [u8]) -> Opened
+    ensures { λ r. ⌜ r ≡ answerOf (schemeOf name) (now (key .entry)) pack place (now (block .entry)) ⌝ }
+    ensures { λ r. ⌜ now (block .exit) ≡ leftBy (numberOf r) (decipheredBlock (schemeOf name) (now (key .entry)) pack place (now (block .entry))) (now (block .entry)) ⌝ }
+    ensures { λ r. ⌜ Meaning (schemeOf name) (numberOf r) (now (key .entry)) pack place (now (block .entry)) (now (block .exit)) ⌝ }
+{
+    let expansion = name.expand(key);
+    if expansion.is_key {
+        return open_with(name, expansion.expanded, pack, place, block);
+    }
+    Opened::Refused(Refusal::KeyLength)
+}
+
+// Opens the lent block by HCH as that of a pack and a place, or refuses and leaves it as it is.
 pub fn open(key: &[u8], pack: u64, place: u32, block: &mut [u8]) -> Opened
     ensures { λ r. ⌜ r ≡ answerOf scheme (now (key .entry)) pack place (now (block .entry)) ⌝ }
     ensures { λ r. ⌜ now (block .exit) ≡ leftBy (numberOf r) (decipheredBlock scheme (now (key .entry)) pack place (now (block .entry))) (now (block .entry)) ⌝ }
     ensures { λ r. ⌜ Meaning scheme (numberOf r) (now (key .entry)) pack place (now (block .entry)) (now (block .exit)) ⌝ }
 {
-    let expansion = hch::expand(key);
-    if expansion.is_key {
-        return open_with(expansion.expanded, pack, place, block);
-    }
-    Opened::Refused(Refusal::KeyLength)
+    open_by(SchemeName::Hch, key, pack, place, block)
+}
+
+// The same by the encryption-only scheme.
+pub fn forward_open(key: &[u8], pack: u64, place: u32, block: &mut [u8]) -> Opened
+    ensures { λ r. ⌜ r ≡ answerOf forward (now (key .entry)) pack place (now (block .entry)) ⌝ }
+    ensures { λ r. ⌜ now (block .exit) ≡ leftBy (numberOf r) (decipheredBlock forward (now (key .entry)) pack place (now (block .entry))) (now (block .entry)) ⌝ }
+    ensures { λ r. ⌜ Meaning forward (numberOf r) (now (key .entry)) pack place (now (block .entry)) (now (block .exit)) ⌝ }
+{
+    open_by(SchemeName::Forward, key, pack, place, block)
 }

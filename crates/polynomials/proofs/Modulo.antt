@@ -10,6 +10,7 @@ use Rattle.strings.specs.Xor.{_⊕_}
 use Rattle.blocks.specs.Field.{timesX, productN, product}
 use Rattle.polynomials.specs.Inner.{carryless, reduction}
 use Rattle.strings.proofs.Xor.{xor-laws, xor-shr, xor-mod, xor-zero, xor-zero-left}
+use Rattle.blocks.specs.Counter.{φ}
 use Rattle.blocks.proofs.Ring.{Additive, additive-zero, basis, xs, xs-add, xs-one, xs-top, xs-left, prod-add-left, prod-add-right, prod-pow}
 use Rattle.polynomials.proofs.Carryless.{shift-add, carryless-add-right, carryless-more, carryless-below, carryless-pow}
 
@@ -32,7 +33,7 @@ module _ (k p : ℕ) where
   reduced-low c h = rw (mod-eq-of-lt h, div-eq-of-lt h, product-zero) (xor-zero c)
 
   xs-plus : (m n a : ℕ) → xs k p (m + n) a ≡ xs k p m (xs k p n a)
-  unfolding xs
+  unfolding φ
   xs-plus zero n a = simp zero-add
   xs-plus (suc m) n a = rw (suc-add m n) (ap (timesX k p) (xs-plus m n a))
 

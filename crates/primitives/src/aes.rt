@@ -1,4 +1,4 @@
-// AES of FIPS 197 on blocks, with keys of 16 or 32 bytes, and counter mode on lent bytes.
+// AES of FIPS 197 on blocks, with keys of 16 or 32 bytes, and two counter modes on lent bytes.
 ghost use Prim.Native.Nat.{_+_, _-_, _*_, _/_, _≤_, _<_};
 ghost use mathlib.Core.Path.{_≡_};
 ghost use mathlib.Core.List.{_++_};
@@ -7,11 +7,13 @@ ghost use Rattle.strings.specs.Xor.{_⊕_};
 ghost use Rattle.strings.specs.Bytes.{bytes};
 ghost use Rattle.strings.specs.Inner.{overwrite};
 ghost use Rattle.blocks.specs.Blocks.{bin, firstBlock};
-ghost use Rattle.blocks.specs.Counter.{maskedBytes};
+ghost use Rattle.blocks.specs.BlockField.{timesX};
+ghost use Rattle.blocks.specs.Counter.{maskedBytes, φ};
 ghost use Rattle.blocks.specs.Inner.{value};
 ghost use Rattle.primitives.specs.Inner.{Table, CipherTable, InvCipherTables, ofColumns, HasRoundKeys};
 ghost use Rattle.primitives.specs.Aes.{sBox, subWord, rcon, temp, keyWords, roundKey, cipher, invCipher, encipher, isKey};
 ghost use Rattle.primitives.specs.Expanded.{heldWords, expandedKey, roundsDone, under};
+use crate::field;
 use crate::inv_mixing;
 use crate::inv_sbox;
 use crate::mixed_sbox;
@@ -174,6 +176,23 @@ fn mask_block(
     encipher_by(mixed, words, rounds, s.xor_bin(at / 16 + 1)).add_to(message, at);
 }
 
+// Adds E(input) to the block at `at`, cut where `message` ends. A function of its own beside `mask_block`, so that each is called in one place and the
+// compiler puts it into its loop.
+fn add_mask(
+    mixed: &state::Mixing,
+    words: &state::Words,
+    rounds: usize,
+    input: Block,
+    message: &mut [u8],
+    at: usize,
+)
+    requires { ⌜ CipherTable (now mixed) × HasRoundKeys rounds ⌝ }
+    ensures { λ _. ⌜ now (message .exit) ≡ overwrite at (bytes 16 (firstBlock (drop at (now (message .entry))) ⊕ encipher rounds (now (words .entry)) (value input))) (now (message .entry)) ⌝ }
+{
+    let masked = Block::read(message, at).xor(encipher_by(mixed, words, rounds, input));
+    masked.write(message, at);
+}
+
 // InvCipher, 5.3, by the tables that are lent: the round keys backwards.
 fn inv_cipher(
     table: &state::Table,
@@ -250,6 +269,22 @@ impl ExpandedKey {
         let mut at = 0;
         while at < message.len() {
             mask_block(&mixed, &words, rounds, s, message, at);
+            at += 16;
+        }
+    }
+
+    // The modified counter mode of 000 on lent bytes, in the same way: E(x^i β ⊕ s) is added to block i, from 0 on.
+    pub fn modified_counter(self, beta: Block, s: Block, message: &mut [u8])
+        ensures { λ _. ⌜ now (message .exit) ≡ maskedBytes (λ i. under self .E (φ timesX (value beta) i ⊕ value s)) 0 (now (message .entry)) ⌝ }
+    {
+        let mixed = mixed_sbox::table();
+        let words = self.words;
+        let rounds = rounds_done(self.rounds);
+        let mut phi = beta;
+        let mut at = 0;
+        while at < message.len() {
+            add_mask(&mixed, &words, rounds, phi.xor(s), message, at);
+            phi = field::times_x(phi);
             at += 16;
         }
     }

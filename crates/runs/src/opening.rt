@@ -13,6 +13,7 @@ ghost use Rattle.runs.specs.Opening.{numberOf, decipheredRun, usedLength
 ghost use Rattle.runs.specs.Inner.{CipherUnder, InRange, OpensInTurn, OpensBlocks};
 use pack::Opened;
 use primitives::aes::ExpandedKey;
+use schemes::SchemeName;
 use strings::number;
 use strings::refusal::Answer;
 use strings::refusal::Refusal;
@@ -60,7 +61,13 @@ fn encipher_blocks(expanded: ExpandedKey, pack: u64, first: u32, run: &mut [u8])
     let mut i = 0;
     while i < run.len() / 512 {
         let at = 512 * i;
-        pack::cipher::encipher(expanded, pack, first + i as u32, &mut run[at..at + 512]);
+        pack::cipher::encipher(
+            SchemeName::Hch,
+            expanded,
+            pack,
+            first + i as u32,
+            &mut run[at..at + 512],
+        );
         i += 1;
     }
 }
@@ -74,7 +81,13 @@ fn open_in_turn(expanded: ExpandedKey, pack: u64, first: u32, run: &mut [u8]) ->
     while i < run.len() / 512 {
         let start = 512 * i;
         let place = first + i as u32;
-        let opened = pack::open_with(expanded, pack, place, &mut run[start..start + 512]);
+        let opened = pack::open_with(
+            SchemeName::Hch,
+            expanded,
+            pack,
+            place,
+            &mut run[start..start + 512],
+        );
         if let Opened::Refused(why) = opened {
             return RunOpened::Failed(why, place);
         }

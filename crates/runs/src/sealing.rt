@@ -12,6 +12,7 @@ ghost use Rattle.runs.specs.Sealing.{someOver, payloadAt, sealedRun, tes
 ghost use Rattle.runs.specs.Opening.{OneRun};
 ghost use Rattle.runs.specs.Inner.{CipherUnder, Sealable};
 use primitives::aes::ExpandedKey;
+use schemes::SchemeName;
 use strings::places;
 use strings::refusal::Answer;
 use strings::refusal::Refusal;
@@ -54,7 +55,7 @@ fn seal_block(expanded: ExpandedKey, u: usize, pack: u64, place: u32, block: &mu
     ensures { λ _. ⌜ now (block .exit) ≡ sealedBy (hchUnder expanded) [] (take u (now (block .entry))) pack place ⌝ }
 {
     layout::complete(u, pack, place, block);
-    pack::cipher::encipher(expanded, pack, place, block);
+    pack::cipher::encipher(SchemeName::Hch, expanded, pack, place, block);
 }
 
 // Seals the blocks in turn.

@@ -9,4 +9,5 @@ pub mod Permutations
 pub mod One
 pub mod Pass
 pub mod Refusals
+pub mod OnMessages
 pub mod Theorems

@@ -8,14 +8,14 @@ use mathlib.Core.Logic.{_⊎_, inl, inr}
 use native.Mathlib.Omega.{arith}
 use lib.ListN.{take}
 use Rattle.strings.specs.declared.refusal.Refusal.{Refusal}
-use Rattle.strings.specs.declared.refusal.Refusal.the-variants.{KeyLength, TweakLength, TooShort, TooLong, PayloadTooLong, PlaceTooHigh, BlockLength, CheckFailed, PackLength, ListLength, Blank}
+use Rattle.strings.specs.declared.refusal.Refusal.the-variants.{KeyLength, TweakLength, TooShort, TooLong, PayloadTooLong, PlaceTooHigh, BlockLength, CheckFailed, PackLength, ListLength, Blank, ForwardTooShort}
 use Rattle.strings.specs.declared.refusal.Answer.{Answer}
 use Rattle.strings.specs.declared.refusal.Answer.the-variants.{Done, Refused}
 use Rattle.strings.specs.Call.{refusalNumber, numberOf, Tests, looksAt, leftBy}
 use Rattle.strings.specs.Inner.{refuseIf, inTurn}
 
--- A refusal's number is not that of a call that was done, nor 9, which is the program's; and 12 is the highest.
-pub refusal-range : (why : Refusal) → (0 < refusalNumber why) × (refusalNumber why ≤ 12) × (refusalNumber why ≡ 9 → ⊥)
+-- A refusal's number is not that of a call that was done, nor 9, which is the program's; and 13 is the highest.
+pub refusal-range : (why : Refusal) → (0 < refusalNumber why) × (refusalNumber why ≤ 13) × (refusalNumber why ≡ 9 → ⊥)
 refusal-range KeyLength = (omega arith, omega arith, λ e. omega (arith, e))
 refusal-range TweakLength = (omega arith, omega arith, λ e. omega (arith, e))
 refusal-range TooShort = (omega arith, omega arith, λ e. omega (arith, e))
@@ -27,6 +27,7 @@ refusal-range CheckFailed = (omega arith, omega arith, λ e. omega (arith, e))
 refusal-range PackLength = (omega arith, omega arith, λ e. omega (arith, e))
 refusal-range ListLength = (omega arith, omega arith, λ e. omega (arith, e))
 refusal-range Blank = (omega arith, omega arith, λ e. omega (arith, e))
+refusal-range ForwardTooShort = (omega arith, omega arith, λ e. omega (arith, e))
 
 refusal-some : (why : Refusal) → refusalNumber why ≡ 0 → ⊥
 refusal-some why e = omega (arith, refusal-range why .0, e)

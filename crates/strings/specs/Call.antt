@@ -3,7 +3,7 @@ use Prim.Native.Nat.{ℕ, zero, suc}
 use mathlib.Core.Bool.{Bool, cond}
 use mathlib.Core.List.{List, [], _∷_}
 use Rattle.strings.specs.declared.refusal.Refusal.{Refusal}
-use Rattle.strings.specs.declared.refusal.Refusal.the-variants.{KeyLength, TweakLength, TooShort, TooLong, PayloadTooLong, PlaceTooHigh, BlockLength, CheckFailed, PackLength, ListLength, Blank}
+use Rattle.strings.specs.declared.refusal.Refusal.the-variants.{KeyLength, TweakLength, TooShort, TooLong, PayloadTooLong, PlaceTooHigh, BlockLength, CheckFailed, PackLength, ListLength, Blank, ForwardTooShort}
 use Rattle.strings.specs.declared.refusal.Answer.{Answer}
 use Rattle.strings.specs.declared.refusal.Answer.the-variants.{Done, Refused}
 
@@ -20,6 +20,7 @@ refusalNumber CheckFailed = 8
 refusalNumber PackLength = 10
 refusalNumber ListLength = 11
 refusalNumber Blank = 12
+refusalNumber ForwardTooShort = 13
 
 -- A call that was done has 0.
 abbrev pub numberOf : Answer → ℕ

@@ -16,6 +16,7 @@ pub enum Refusal {
     PackLength,
     ListLength,
     Blank,
+    ForwardTooShort,
 }
 
 pub enum Answer {
@@ -40,6 +41,7 @@ impl Refusal {
             Refusal::PackLength => 10,
             Refusal::ListLength => 11,
             Refusal::Blank => 12,
+            Refusal::ForwardTooShort => 13,
         }
     }
 }

@@ -17,13 +17,21 @@
 //     ls k p n d b    as `ps`, into the lent block b
 //     lo k p n b      as `po`, on the lent block b
 //     lf c n b        b written to the front of the block at the place n of the lent pack c, cut where that ends
+//     fe k t d        as `he`, by the encryption-only scheme
+//     fd k t d        as `hd`, by it
+//     fs k p n d      as `ps`, by it
+//     fo k p n b      as `po`, by it
+//     ge k t d        as `le`, by it
+//     gd k t d        as `ld`, by it
+//     gs k p n d b    as `ls`, by it
+//     go k p n b      as `lo`, by it
 //     rs k p n l r    the lent run r sealed, with the list of lengths l, for the pack p and the places from n on
 //     ro k p n l r    the lent run r opened, its lengths written to the lent list l
 //
 // In `x`, `m` and `s` every field is a block, and so is the field `a` of `ae` and `ad`. p has 16 digits and n has
 // 8; l has 4 for each entry. All other fields, and l, may have any length, and be empty. What the
 // library refuses, as a key of neither 16 nor 32 bytes, is answered `no` and the number of the reason.
-// The last seven answer the call's number, 0 where it was done, a space, and all the lent bytes as the
+// Those that lend bytes answer the call's number, 0 where it was done, a space, and all the lent bytes as the
 // call leaves them. In front of these, `ro` answers the place of the block that would not open, where
 // that is the reason, and the list as it is left, with a space behind each.
 mod batch;
@@ -37,6 +45,7 @@ use blocks::block::Block;
 use libc::STDIN_FILENO;
 use libc::STDOUT_FILENO;
 use primitives::field;
+use schemes::SchemeName;
 use text::hex::Decoded;
 use text::part::Kept;
 
@@ -136,7 +145,20 @@ fn run(command: &[u8], rest: &[u8]) -> bool {
     false
 }
 
-// A command under a key of any length. Those of `l` are of HCH or of a pack, as the second letter says.
+// Whether a command's first letter says that it lends.
+pub(crate) fn lends(letter: u8) -> bool {
+    letter == b'l' || letter == b'g'
+}
+
+// The scheme that a command's first letter stands for.
+pub(crate) fn name_of(letter: u8) -> SchemeName {
+    if letter == b'f' || letter == b'g' {
+        return SchemeName::Forward;
+    }
+    SchemeName::Hch
+}
+
+// A command under a key of any length. Those of `f`, and those of `l` and `g`, which lend, are on a message or of a pack, as the second letter says.
 fn run_keyed(scheme: u8, way: u8, rest: &[u8]) -> bool {
     let mut key = fields::room();
     let Decoded::Bytes(n) = text::hex::decode_field(rest, b' ', &mut key) else {
@@ -147,11 +169,11 @@ fn run_keyed(scheme: u8, way: u8, rest: &[u8]) -> bool {
     if scheme == b'a' {
         return cipher::reply(way, key, rest);
     }
-    let lent = scheme == b'l';
-    if scheme == b'h' || lent && (way == b'e' || way == b'd') {
-        return message::reply(lent, way, key, rest);
+    let either = lends(scheme) || scheme == b'f';
+    if scheme == b'h' || either && (way == b'e' || way == b'd') {
+        return message::reply(scheme, way, key, rest);
     }
-    if scheme == b'p' || lent || scheme == b'r' {
+    if scheme == b'p' || either || scheme == b'r' {
         return sealing::reply(scheme, way, key, rest);
     }
     false

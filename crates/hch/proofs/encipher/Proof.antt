@@ -5,40 +5,31 @@ use mathlib.Core.Bool.{true, false}
 use native.Mathlib.Omega.{arith}
 use borrow.Author.Needs.{needs}
 use denote.Ref.{now}
+use Rattle.strings.specs.declared.refusal.Refusal.the-variants.{TooShort}
+use Rattle.strings.proofs.OnMessages.{no-key, enciphered-under-key}
 use Rattle.hch.specs.Hch.{hch}
-use Rattle.hch.proofs.Call.{behind-key, no-key}
+use Rattle.hch.specs.Call.{tests}
 use Rattle.hch.proofs.encipher.Statement.{statement}
 use Rattle.hch.proofs.encipher.Tie as tie
 
-expand-requires : tie.Need-expand-requires
-expand-requires c κs = search needs
-
-encipher-with-requires : tie.Need-encipher-with-requires
-encipher-with-requires c κs = search needs
-
-same-length : tie.Need-same-length
-same-length c = search needs
-
 returns : tie.Need-returns
+unfolding tests
 returns c =
     let work = c .before .before in
     let then = work .before .before in
     let start = then .before in
     let args = start .before .before .before .before .args in
-    let key = now (args .key) in
-    let k : hch .isKey key ≡ true = sym (start .expand .ensures .0) ∙ then .if1 .taken in
-    let same = start .expand .ensures .1 .1 .0 k in
-    let done = work .encipher-with .ensures in (
-      done .0 ∙ behind-key key (now (args .tweak)) (now (args .message)) k,
-      (rw (sym (same .enciphers)) (done .1 .0), rw (sym (same .enciphers), sym (same .deciphers)) (done .1 .1)),
-    )
+    let k : hch .isKey (now (args .key)) ≡ true = sym (start .expand .ensures .0) ∙ then .if1 .taken in
+    let e = work .encipher-with .ensures in
+    enciphered-under-key 16 TooShort hch (now (args .key)) (now (args .tweak)) (now (args .message)) k (start .expand .ensures .1 .1 .0 k) (e .0) (e .1 .1) (e .1 .0)
 
 returns-2 : tie.Need-returns-2
+unfolding tests
 returns-2 c =
     let start = c .before in
     let args = start .before .before .before .before .args in
     let k : hch .isKey (now (args .key)) ≡ false = sym (start .expand .ensures .0) ∙ c .if1 .left in
-    (sym (no-key (now (args .key)) (now (args .tweak)) (now (args .message)) k), (refl, λ e. absurd (omega (arith, e))))
+    (no-key 16 TooShort (now (args .tweak)) (now (args .message)) hch (now (args .key)) k, (refl, λ e. absurd (omega (arith, e))))
 
 pub encipher-spec : {M : Type 1} → statement M
-encipher-spec = tie.close (tie.spec expand-requires encipher-with-requires same-length returns returns-2)
+encipher-spec = tie.close (tie.spec (λ c κs. search needs) (λ c κs. search needs) (λ c. search needs) returns returns-2)

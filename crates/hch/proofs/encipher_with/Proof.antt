@@ -4,77 +4,60 @@ use mathlib.Core.Path.{sym, ap, _∙_}
 use borrow.Author.Needs.{needs}
 use denote.Ref.{now}
 use lib.ListN.{length}
+use Rattle.strings.specs.Call.{numberOf}
+use Rattle.strings.specs.declared.refusal.Refusal.the-variants.{TooShort}
+use Rattle.strings.proofs.OnMessages.{Admitted, admitted-behind-key, done-behind-key}
+use Rattle.strings.proofs.Refusals.{refused-some, refused-leaves}
 use Rattle.blocks.proofs.Blocks.{block-whole}
 use Rattle.hch.specs.Hch.{encipheredBy}
-use Rattle.strings.specs.Call.{numberOf}
-use Rattle.strings.proofs.Refusals.{refused-some, refused-leaves}
-use Rattle.hch.proofs.Call.{admitted-behind-key}
+use Rattle.hch.specs.Expanded.{hchUnder}
 use Rattle.hch.proofs.Theorems.{under-cipher}
 use Rattle.hch.proofs.encipher_with.Statement.{statement}
 use Rattle.hch.proofs.encipher_with.Tie as tie
 
-judge-requires : tie.Need-judge-requires
-judge-requires c κs = search needs
-
-enum-told : tie.Need-enum-told
-enum-told c = search needs
-
-read-requires : tie.Need-read-requires
-read-requires c κs = search needs
+-- What the tests tell where the work is to be done.
+known : (c : tie.After-enum-told) → let args = c .before .before .before .before .before .before .args in Admitted 16 (now (args .tweak)) (now (args .message))
+known c =
+    let judged = c .before .before in
+    let args = judged .before .before .before .before .args in
+    admitted-behind-key 16 TooShort (now (args .tweak)) (now (args .message)) (ap numberOf (sym (judged .judge .ensures) ∙ c .enum-told .given .1))
 
 encipher-message-requires : tie.Need-encipher-message-requires
 encipher-message-requires c κs =
-    let told = c .before .before in
-    let judged = told .before .before in
-    let args = judged .before .before .before .before .args in
-    let a = admitted-behind-key (now (args .tweak)) (now (args .message)) (ap numberOf (sym (judged .judge .ensures) ∙ told .enum-told .given .1)) in
+    let a = known (c .before .before) in
     (a .at-least, a .at-most)
-
-same-length : tie.Need-same-length
-same-length c = search needs
 
 returns : tie.Need-returns
 unfolding encipheredBy
 returns c =
-    let b = c .before .before in
-    let read = b .before .before in
+    let work = c .before .before in
+    let read = work .before .before in
     let told = read .before in
     let judged = told .before .before in
     let lent = judged .before .before in
     let args = lent .before .before .args in
     let tweak = now (args .tweak) in
     let message = now (args .message) in
-    let done = told .enum-told .given .1 in
-    let a = admitted-behind-key tweak message (ap numberOf (sym (judged .judge .ensures) ∙ done)) in (
-      judged .judge .ensures,
-      (
-        rw (done, b .encipher-message .ensures, read .read .ensures, block-whole tweak (a .tweak-length)),
-        λ e. under-cipher (args .expanded) tweak (length message) (a .tweak-length, λ i. lent .before .shared-slice-known .given i .fits) (a .at-least),
-      ),
-    )
-
-enum-told-2 : tie.Need-enum-told-2
-enum-told-2 c = search needs
-
-same-length-2 : tie.Need-same-length-2
-same-length-2 c = search needs
+    let a = known told in
+    done-behind-key (hchUnder (args .expanded)) 16 TooShort tweak message _ (judged .judge .ensures) (told .enum-told .given .1)
+    (rw (work .encipher-message .ensures, read .read .ensures, block-whole tweak (a .tweak-length)))
+    (under-cipher (args .expanded) tweak (length message) (a .tweak-length, λ i. lent .before .shared-slice-known .given i .fits) (a .at-least))
 
 returns-2 : tie.Need-returns-2
 returns-2 c =
     let why = c .enum-told2 .given .1 in
-    let judged = c .before .before in
-    (judged .judge .ensures, (refused-leaves why _ _, λ e. absurd (refused-some why e)))
+    (c .before .before .judge .ensures, (refused-leaves why _ _, λ e. absurd (refused-some why e)))
 
 pub encipher-with-spec : {M : Type 1} → statement M
 encipher-with-spec =
     tie.close
     (tie.spec
-    judge-requires
-    enum-told
-    read-requires
+    (λ c κs. search needs)
+    (λ c. search needs)
+    (λ c κs. search needs)
     encipher-message-requires
-    enum-told-2
-    same-length
+    (λ c. search needs)
+    (λ c. search needs)
     returns
-    same-length-2
+    (λ c. search needs)
     returns-2)

@@ -66,6 +66,9 @@ reply-requires c κs = search needs
 returns-2 : tie.Need-returns-2
 returns-2 c = search needs
 
+lends-requires : tie.Need-lends-requires
+lends-requires c κs = search needs
+
 reply-requires-2 : tie.Need-reply-requires-2
 reply-requires-2 c κs = search needs
 
@@ -101,6 +104,7 @@ run-keyed-spec =
     part-rest-end
     reply-requires
     returns-2
+    lends-requires
     reply-requires-2
     returns-3
     reply-requires-3

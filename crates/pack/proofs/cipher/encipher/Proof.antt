@@ -1,4 +1,4 @@
--- The lengths are those that HCH admits, so it does its work, and its contract says that it is a cipher.
+-- The lengths are those that every scheme admits, so it does its work, and its contract says that it is a cipher.
 -- Assumes nothing.
 use borrow.Author.Needs.{needs}
 use borrow.Author.Tests.{eq-eqb, ne-eqb}
@@ -18,7 +18,7 @@ returns c =
     let size = then .if1 .taken in
     let e = work .encipher-with .ensures in
     let told =
-    by-contract (a .expanded) (a .pack) (a .place) (now (a .block)) size _ _
+    by-contract (a .pack) (a .place) (now (a .block)) size (a .name) (a .expanded) _ _
     (rw (t .tweak .ensures) at (e .0)) (rw (t .tweak .ensures) at (e .1 .0)) (rw (t .tweak .ensures) at (e .1 .1)) in
     (rw (eq-eqb _ 512 size) (told .0), λ l. told .1)
 

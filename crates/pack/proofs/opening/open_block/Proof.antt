@@ -1,6 +1,6 @@
 -- The check decides; what fails it is enciphered again, and its lent bytes say why it is refused.
 -- Assumes nothing.
-use mathlib.Core.Path.{_≡_, refl, sym, ap, _∙_}
+use mathlib.Core.Path.{_≡_, sym, ap, _∙_}
 use mathlib.Core.List.{[]}
 use mathlib.Core.Bool.{true, false}
 use borrow.Author.Needs.{needs}
@@ -8,7 +8,8 @@ use borrow.Author.Tests.{eq-eqb}
 use denote.Ref.{now}
 use lib.ListN.{length}
 use Rattle.strings.proofs.Refusals.{refusal-leaves}
-use Rattle.hch.specs.Expanded.{hchUnder}
+use Rattle.schemes.specs.Schemes.{schemeUnder}
+use Rattle.schemes.proofs.Names.{every-key}
 use Rattle.layout.proofs.Check.{read-passed, read-failed}
 use Rattle.pack.specs.Opening.{failure, decipheredBlock}
 use Rattle.pack.specs.Inner.{onBlock}
@@ -48,18 +49,18 @@ returns c =
     let known = d .before .before in
     let start = known .before in
     let a = start .args in
-    let S = hchUnder (a .expanded) in
+    let S = schemeUnder (a .name) (a .expanded) in
     let C = now (a .block) in
     let pack = a .pack in
     let place = a .place in
     let size = start .pre .0 in
     let B = decipheredBlock S [] pack place C in
-    let o : Openable S [] place C = record { is-key = refl; block-length = size; place-limit = start .pre .1 } in
+    let o : Openable S [] place C = record { is-key = every-key (a .name) (a .expanded) []; block-length = size; place-limit = start .pre .1 } in
     let cipher = d .decipher .ensures .1 size in
-    let plain : d .decipher .last .1 .1 .1 .0 ≡ B = rw (d .decipher .ensures .0, eq-eqb (length C) 512 size) in
+    let plain : d .decipher .last .1 .1 .1 .1 .0 ≡ B = rw (d .decipher .ensures .0, eq-eqb (length C) 512 size) in
     let long : length B ≡ 512 = cipher .inverse-keeps C (size, λ i. known .slice-known .given i .fits) .0 in
     let failed = read-failed pack place B (sym (told .enum-told .given .1) ∙ rw plain at (read .read .ensures)) in
-    let left : again .encipher .last .1 .1 .1 .0 ≡ C =
+    let left : again .encipher .last .1 .1 .1 .1 .0 ≡ C =
     rw (again .encipher .ensures .0, plain, eq-eqb (length B) 512 long)
     (given-back S [] pack place cipher C (size, λ i. known .slice-known .given i .fits)) in
     let why : c .failure .result ≡ failure C = rw left at (c .failure .ensures) in
@@ -78,15 +79,15 @@ returns-2 c =
     let known = d .before .before in
     let start = known .before in
     let a = start .args in
-    let S = hchUnder (a .expanded) in
+    let S = schemeUnder (a .name) (a .expanded) in
     let C = now (a .block) in
     let pack = a .pack in
     let place = a .place in
     let size = start .pre .0 in
     let B = decipheredBlock S [] pack place C in
-    let o : Openable S [] place C = record { is-key = refl; block-length = size; place-limit = start .pre .1 } in
+    let o : Openable S [] place C = record { is-key = every-key (a .name) (a .expanded) []; block-length = size; place-limit = start .pre .1 } in
     let cipher = d .decipher .ensures .1 size in
-    let plain : d .decipher .last .1 .1 .1 .0 ≡ B = rw (d .decipher .ensures .0, eq-eqb (length C) 512 size) in
+    let plain : d .decipher .last .1 .1 .1 .1 .0 ≡ B = rw (d .decipher .ensures .0, eq-eqb (length C) 512 size) in
     let passed = read-passed pack place B (verdict .0 .0) (sym (verdict .1) ∙ rw plain at (read .read .ensures)) in
     opens S [] pack place cipher C _ (Done _) (λ i. known .slice-known .given i .fits) (rw (passed .1) (sym (by-check S [] pack place C o true (passed .0)))) plain
 

@@ -1,10 +1,11 @@
 -- A refusal before the block is deciphered is that of the first tests; else the check decides.
 -- Assumes nothing.
-use mathlib.Core.Path.{refl, sym, _∙_}
+use mathlib.Core.Path.{sym, _∙_}
 use mathlib.Core.List.{[]}
 use borrow.Author.Needs.{needs}
 use denote.Ref.{now}
-use Rattle.hch.specs.Expanded.{hchUnder}
+use Rattle.schemes.specs.Schemes.{schemeUnder}
+use Rattle.schemes.proofs.Names.{every-key}
 use Rattle.pack.proofs.OneBlock.{openable, refused-behind}
 use Rattle.pack.proofs.opening.open_with.Statement.{statement}
 use Rattle.pack.proofs.opening.open_with.Tie as tie
@@ -23,8 +24,8 @@ returns c =
     let refused = c .before .answer .given in
     let judged = c .before .before .before in
     let a = judged .before .before .before .args in
-    let S = hchUnder (a .expanded) in
-    let first = refused-behind S [] (a .pack) (a .place) (now (a .block)) refl (sym (judged .judge .ensures S [] (a .pack)) ∙ refused .1) in
+    let S = schemeUnder (a .name) (a .expanded) in
+    let first = refused-behind S [] (a .pack) (a .place) (now (a .block)) (every-key (a .name) (a .expanded) []) (sym (judged .judge .ensures S [] (a .pack)) ∙ refused .1) in
     (first .answered, (first .left, first .meaning))
 
 enum-told : tie.Need-enum-told
@@ -34,7 +35,7 @@ open-block-requires : tie.Need-open-block-requires
 open-block-requires c κs =
     let tested = c .before .before .before in
     let lent = tested .before .before .before .args in
-    let S = hchUnder (lent .expanded) in
+    let S = schemeUnder (lent .name) (lent .expanded) in
     openable S [] (lent .pack) (lent .place) (now (lent .block)) (sym (tested .judge .ensures S [] (lent .pack)) ∙ c .before .enum-told .given .1)
 
 same-length-2 : tie.Need-same-length-2

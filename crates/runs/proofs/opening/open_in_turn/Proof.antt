@@ -87,7 +87,7 @@ returns c =
     let below : l .i < blockCount run = omega (arith, l .inv .2, at-turn .loop-test .taken) in
     let lent = next-block (a .expanded) (a .pack) (a .first) run (start .pre .0) (λ k. known .slice-known .given k .fits) (l .i) below (l .inv .0) in
     let shut = ap (answerOfBlock S [] (a .pack) (a .first + l .i)) (sym lent) ∙ sym (done .open-with .ensures .0) ∙ refused in
-    let back : done .open-with .last .1 .1 .1 .0 ≡ take (512 * l .i + 512 - 512 * l .i) (drop (512 * l .i) (l .run)) =
+    let back : done .open-with .last .1 .1 .1 .1 .0 ≡ take (512 * l .i + 512 - 512 * l .i) (drop (512 * l .i) (l .run)) =
     done .open-with .ensures .1 .0 ∙ left-back refused _ _ in
     record {
       answered = sym (first-refused S [] (a .pack) (a .first) run (blockCount run) (l .i) below (l .inv .1) shut);

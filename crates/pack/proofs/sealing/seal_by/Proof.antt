@@ -11,20 +11,21 @@ use Rattle.strings.specs.Call.{numberOf}
 use Rattle.strings.specs.declared.refusal.Answer.{Answer}
 use Rattle.strings.specs.declared.refusal.Answer.the-variants.{Done}
 use Rattle.strings.proofs.Refusals.{refused-some, refused-leaves}
-use Rattle.hch.specs.Hch.{hch}
+use Rattle.schemes.specs.Schemes.{schemeOf}
+use Rattle.schemes.specs.declared.SchemeName.{SchemeName}
 use Rattle.layout.specs.Layout.{plainBlock, tweak}
 use Rattle.layout.proofs.Check.{both-fit, length-plain, tweak-of-length}
 use Rattle.pack.specs.Inner.{onBlock}
 use Rattle.pack.specs.Sealing.{seal as sealedBy, WithinLimits, answerOf}
 use Rattle.pack.proofs.OneBlock.{Sealable, sealable, one-block}
 use Rattle.pack.proofs.Same.{same-cipher}
-use Rattle.pack.proofs.sealing.seal.Statement.{statement}
-use Rattle.pack.proofs.sealing.seal.Tie as tie
+use Rattle.pack.proofs.sealing.seal_by.Statement.{statement}
+use Rattle.pack.proofs.sealing.seal_by.Tie as tie
 
 -- What the tests tell where the call is done.
-known : (key payload : List ℕ) (place : ℕ) (block : List ℕ) {answer : Answer} → answer ≡ answerOf hch key payload place block → answer ≡ Done
-    → Sealable hch key payload place block
-known key payload place block e done = sealable hch key payload place block (ap numberOf (sym e ∙ done))
+known : (name : SchemeName) (key payload : List ℕ) (place : ℕ) (block : List ℕ) {answer : Answer} → answer ≡ answerOf (schemeOf name) key payload place block
+    → answer ≡ Done → Sealable (schemeOf name) key payload place block
+known name key payload place block e done = sealable (schemeOf name) key payload place block (ap numberOf (sym e ∙ done))
 
 judge-requires : tie.Need-judge-requires
 judge-requires c κs = search needs
@@ -59,7 +60,7 @@ returns c =
     let key = now (a .key) in
     let payload = now (a .payload) in
     let done = told .enum-told .given .1 in
-    let s = known key payload (a .place) (now (a .block)) (judged .judge .ensures) done in
+    let s = known (a .name) key payload (a .place) (now (a .block)) (judged .judge .ensures) done in
     let limits : WithinLimits payload (a .place) = record {
       payload-bytes = λ i. judged .before .before .before .shared-slice-known2 .given i .fits;
       payload-length = s .payload-length;
@@ -69,10 +70,10 @@ returns c =
     let plain : written .write .last .1 .1 .1 .0 ≡ plainBlock payload (a .pack) (a .place) =
     rw (written .write .ensures, both-fit payload (now (a .block)) (s .payload-length) (s .block-length)) in
     let size = length-plain payload (a .pack) (a .place) (s .payload-length) in
-    let left : work .encipher .last .1 .1 .1 .0 ≡ sealedBy hch key payload (a .pack) (a .place) =
+    let left : work .encipher .last .1 .1 .1 .1 .0 ≡ sealedBy (schemeOf (a .name)) key payload (a .pack) (a .place) =
     rw (work .encipher .ensures .0, plain, eq-eqb _ 512 size, same .enciphers) in
     let cipher = same-cipher same 16 512 (start .expand .ensures .1 .1 .1 512 (omega arith)) (tweak (a .pack) (a .place)) (tweak-of-length (a .pack) (a .place)) in
-    (judged .judge .ensures, (rw (done, left), λ e. rw left (one-block hch key (a .pack) (a .place) cipher payload (s .is-key) limits)))
+    (judged .judge .ensures, (rw (done, left), λ e. rw left (one-block (schemeOf (a .name)) key (a .pack) (a .place) cipher payload (s .is-key) limits)))
 
 same-length-2 : tie.Need-same-length-2
 same-length-2 c = search needs
@@ -82,8 +83,8 @@ returns-2 c =
     let why = c .enum-told2 .given .1 in
     (c .before .before .judge .ensures, (refused-leaves why _ _, λ e. absurd (refused-some why e)))
 
-pub seal-spec : {M : Type 1} → statement M
-seal-spec =
+pub seal-by-spec : {M : Type 1} → statement M
+seal-by-spec =
     tie.close
     (tie.spec
     judge-requires

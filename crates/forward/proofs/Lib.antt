@@ -1,0 +1,3 @@
+pub mod Scheme
+pub mod LentBytes
+pub mod Theorems

@@ -1,0 +1,5 @@
+pub mod Forward
+pub mod Call
+pub mod Expanded
+pub mod Inner
+pub mod Theorems
