@@ -11,11 +11,12 @@
 #include <stdio.h>
 #include <string.h>
 
-/* The calls of one library. Those of the earlier one have before_ in front of their names, and have to take the same arguments. */
+/* The calls of one library. Those of the earlier one have before_ in front of their names, and have to take the same
+   arguments. Forward is the encryption-only scheme: where the earlier library lacks it, its calls are NULL. */
 typedef struct {
-    __typeof__(boards_encipher) *encipher;
+    __typeof__(boards_encipher) *encipher, *forward_encipher;
     __typeof__(boards_seal) *seal;
-    __typeof__(boards_open) *open;
+    __typeof__(boards_open) *open, *forward_open;
     __typeof__(boards_open_run) *open_run;
 } library;
 
@@ -23,13 +24,16 @@ __typeof__(boards_encipher) before_boards_encipher;
 __typeof__(boards_seal) before_boards_seal;
 __typeof__(boards_open) before_boards_open;
 __typeof__(boards_open_run) before_boards_open_run;
+__attribute__((weak)) __typeof__(boards_encipher) before_boards_forward_encipher;
+__attribute__((weak)) __typeof__(boards_open) before_boards_forward_open;
 
 static const library libraries[2] = {
-    {boards_encipher, boards_seal, boards_open, boards_open_run},
-    {before_boards_encipher, before_boards_seal, before_boards_open, before_boards_open_run},
+    {boards_encipher, boards_forward_encipher, boards_seal, boards_open, boards_forward_open, boards_open_run},
+    {before_boards_encipher, before_boards_forward_encipher, before_boards_seal, before_boards_open,
+     before_boards_forward_open, before_boards_open_run},
 };
 
-enum { ROWS = 8, SIDES = 2, BLOCKS = 40, RUN = BLOCKS * 512, MOST = 3 * RUN, PACK = 1, PLACE = 258 };
+enum { ROWS = 12, FORWARD_ROWS = 3, SIDES = 2, BLOCKS = 40, RUN = BLOCKS * 512, MOST = 3 * RUN, PACK = 1, PLACE = 258 };
 
 /* What is measured: one call of a library on the row's bytes, and its answer. */
 typedef struct row row;
@@ -47,13 +51,19 @@ struct row {
 
 static uint8_t key[32];
 static const uint8_t tweak[16] = {1}, zeros[512];
-static uint8_t board[4096], sealed[512], sealed_long[512], damaged[512], sealed_run[RUN];
+static uint8_t board[4096], sealed[512], sealed_long[512], sealed_forward[512], damaged[512], sealed_run[RUN];
 
 static uint32_t encipher(const library *l, const row *r, uint8_t *data) { return l->encipher(key, r->key_length, tweak, 16, data, r->length); }
+static uint32_t forward_encipher(const library *l, const row *r, uint8_t *data) {
+    return l->forward_encipher(key, r->key_length, tweak, 16, data, r->length);
+}
 static uint32_t seal(const library *l, const row *r, uint8_t *data) {
     return l->seal(key, r->key_length, board, BOARDS_PAYLOAD_MAX, PACK, PLACE, data, r->length);
 }
 static uint32_t open_block(const library *l, const row *r, uint8_t *data) { return l->open(key, r->key_length, PACK, PLACE, data, r->length); }
+static uint32_t forward_open(const library *l, const row *r, uint8_t *data) {
+    return l->forward_open(key, r->key_length, PACK, PLACE, data, r->length);
+}
 static uint32_t open_run(const library *l, const row *r, uint8_t *data) {
     uint16_t lengths[BLOCKS];
     uint32_t failed;
@@ -67,9 +77,16 @@ static const row rows[ROWS] = {
     {"opening a damaged block", open_block, 16, damaged, 512, 16, true},
     {"opening a block of zeros", open_block, 16, zeros, 512, 16, true},
     {"sealing 496 bytes", seal, 16, zeros, 512, 32, false},
+    {"HCH, enciphering 16 bytes", encipher, 16, board, 16, 200, false},
     {"HCH, enciphering 512 bytes", encipher, 16, board, 512, 32, false},
     {"HCH, enciphering 4,096 bytes", encipher, 16, board, 4096, 4, false},
+    {"forward, opening a good block", forward_open, 16, sealed_forward, 512, 32, false},
+    {"forward, enciphering 512 bytes", forward_encipher, 16, board, 512, 32, false},
+    {"forward, enciphering 4,096 bytes", forward_encipher, 16, board, 4096, 4, false},
 };
+
+/* The rows that both libraries have: forward's come last. */
+static int rows_of_both(void) { return libraries[1].forward_encipher != NULL ? ROWS : ROWS - FORWARD_ROWS; }
 
 static void need(bool well, const char *name, const char *what) {
     if (well) return;
@@ -86,6 +103,8 @@ static void prepare(void) {
     bool done = seal(l, &long_row, sealed_long) == BOARDS_DONE && seal(l, &short_row, sealed) == BOARDS_DONE;
     for (uint32_t i = 0; i < BLOCKS; i++)
         done = done && l->seal(key, 16, board + 53 * i, 12 * i, PACK, PLACE + i, sealed_run + 512 * i, 512) == BOARDS_DONE;
+    uint32_t answer = boards_forward_seal(key, 16, board, BOARDS_PAYLOAD_MAX, PACK, PLACE, sealed_forward, 512);
+    done = done && answer == BOARDS_DONE;
     need(done, "sealing", "was refused");
     memcpy(damaged, sealed, 512);
     damaged[300] ^= 1;
@@ -102,12 +121,13 @@ static double timed(const library *l, const row *r, uint8_t data[MOST]) {
     return time;
 }
 
-/* A turn goes through all rows. Both sides of a row are to leave the same bytes, and each stack position is met by both orders. */
-static void measure(double times[ROWS][SIDES][TURNS]) {
+/* A turn goes through all rows. Both sides of a row are to leave the same bytes, and each stack position is met by both
+   orders. */
+static void measure(int count, double times[ROWS][SIDES][TURNS]) {
     static uint8_t data[MOST], left[SIDES][MOST];
     for (int turn = 0; turn < TURNS; turn++) {
         MOVE_STACK(turn / 2);
-        for (int i = 0; i < ROWS; i++) {
+        for (int i = 0; i < count; i++) {
             for (int n = 0; n < SIDES; n++) {
                 int side = (turn + n) % SIDES;
                 times[i][side][turn] = timed(&libraries[side], &rows[i], data);
@@ -120,10 +140,11 @@ static void measure(double times[ROWS][SIDES][TURNS]) {
 
 int main(void) {
     static double times[ROWS][SIDES][TURNS];
+    int count = rows_of_both();
     prepare();
-    measure(times);
+    measure(count, times);
     printf("%-38s %9s %9s %12s\n", "nanoseconds a call", "now", "before", "now/before");
-    for (int i = 0; i < ROWS; i++) {
+    for (int i = 0; i < count; i++) {
         const double *a = times[i][0], *b = times[i][1];
         printf("%-38s %9.0f %9.0f %12.3f\n", rows[i].name, median(a, NULL), median(b, NULL), median(a, b));
     }

@@ -10,16 +10,16 @@
 
 static const uint8_t zeros[SIZE];
 
-/* The block, alone and as a run of one, for the key, the pack and the place of the call. If it opens, its payload is
-   empty. */
+/* The block opened by this call, and under HCH as a run of one too, for the same key, pack and place. If it opens, its
+   payload is empty. */
 static void hold_block(call c, const uint8_t block[SIZE], uint32_t number, const uint8_t after[SIZE]) {
     static const uint16_t any_number = 12345, none = 0;
-    c.name = OPEN;
     c.data = (slice){block, SIZE};
     c.after = after;
     c.number = number;
     hold(&c);
     hold_at(&c, (position)5);
+    if (c.name != OPEN) return;
     c.name = OPEN_RUN;
     c.list = (slice){(const uint8_t *)&any_number, sizeof any_number};
     c.list_after = (const uint8_t *)(number == 0 ? &none : &any_number);
@@ -31,34 +31,41 @@ static void hold_block(call c, const uint8_t block[SIZE], uint32_t number, const
 static void hold_failing(call c, const uint8_t block[SIZE], uint32_t number) { hold_block(c, block, number, block); }
 
 /* For packs and places at their edges and between. */
-static void hold_zeros(slice key) {
+static void hold_zeros(call c) {
     static const uint64_t packs[] = {0, 1, 0x0123456789abcdef, INT64_MAX, (uint64_t)1 << 63, UINT64_MAX};
     static const uint32_t places[] = {0, 1, 258, 65534, 65535};
     TRYING("a block of zeros");
     for (size_t i = 0; i < COUNT(packs) * COUNT(places); i++) {
-        call c = {.key = key, .pack = packs[i / COUNT(places)], .place = places[i % COUNT(places)]};
+        c.pack = packs[i / COUNT(places)];
+        c.place = places[i % COUNT(places)];
         hold_failing(c, zeros, 12);
     }
 }
 
 /* Keys of the same length: of zeros, of ones, and any others. */
-static void hold_keys(slice key) {
+static void hold_keys(call c) {
     uint8_t other[32];
+    c.key.bytes = other;
     for (uint32_t i = 0; i < 6; i++) {
         if (i < 2) memset(other, i == 0 ? 0 : 0xff, sizeof other);
         else fill(other, sizeof other, i);
-        hold_zeros((slice){other, key.length});
+        hold_zeros(c);
     }
 }
 
-/* Each bit of the block alone: those with an even number under the short key, and the others under the long one. */
-static void hold_bits(call c) {
+/* Each bit of the block alone: those with an even number under the short key, and the others under the long one. They
+   come in an order that is soon in every part of the block, since a wrong library is to be reported soon. */
+static void hold_bits(void) {
     uint8_t block[SIZE];
-    for (size_t i = c.key.length == key_lengths[0] ? 0 : 1; i < 8 * SIZE; i += 2) {
+    for (size_t turn = 0; turn < 8 * SIZE; turn++) {
+        size_t i = 2531 * turn % (8 * SIZE);
         TRYING("zeros but for bit %zu of byte %zu", i % 8, i / 8);
         memset(block, 0, SIZE);
         block[i / 8] = (uint8_t)(1 << i % 8);
-        hold_failing(c, block, 8);
+        for (scheme s = HCH; s < SCHEMES; s++) {
+            call c = {.name = by(s, OPEN), .key = key_of(key_lengths[i % 2]), .pack = 1, .place = 2};
+            hold_failing(c, block, 8);
+        }
     }
 }
 
@@ -89,41 +96,46 @@ static void make_from_zeros(function name, slice key, uint8_t place, uint8_t blo
     if (number != 0) DIFFERS("%s answers %" PRIu32 " in the place of 0", function_names[name], number);
 }
 
-static void hold_deciphering(slice key) {
+static void hold_deciphering(scheme s, slice key) {
     uint8_t block[SIZE];
-    call back = {.name = ENCIPHER, .key = key, .tweak = {zeros, 16}, .data = {block, SIZE}, .after = zeros};
+    call back = {.name = by(s, ENCIPHER), .key = key, .tweak = {zeros, 16}, .data = {block, SIZE}, .after = zeros};
     TRYING("zeros deciphered, and enciphered again");
-    make_from_zeros(DECIPHER, key, 0, block);
+    make_from_zeros(by(s, DECIPHER), key, 0, block);
     hold(&back);
 }
 
 /* What deciphers to zeros is not blank. For pack 0 and place 0 it is the block of an empty payload, which opens, and
    for another place it fails its check. */
-static void hold_deciphering_to_zeros(slice key) {
+static void hold_deciphering_to_zeros(scheme s, slice key) {
     uint8_t block[SIZE];
     for (uint8_t place = 0; place < 2; place++) {
         TRYING("a block that deciphers to zeros, for place %d", place);
-        call c = {.key = key, .place = place};
-        make_from_zeros(ENCIPHER, key, place, block);
+        call c = {.name = by(s, OPEN), .key = key, .place = place};
+        make_from_zeros(by(s, ENCIPHER), key, place, block);
         if (place == 0) hold_block(c, block, 0, zeros);
         else hold_failing(c, block, 8);
     }
 }
 
-/* This block of a file is blank; then a payload is sealed into it, and it opens. */
-static void hold_sealing(const call good[FUNCTIONS], uint8_t file[RUN], uint32_t at) {
+/* A slot is blank; then a payload is sealed into it, and it opens. */
+static void hold_slot(call seal, const call *open, uint8_t slot[SIZE]) {
+    hold_failing(*open, slot, 12);
+    seal.data.bytes = slot;
+    hold(&seal);
+    hold(open);
+    memcpy(slot, seal.after, SIZE);
+}
+
+/* The same of this block of a file. */
+static void hold_slot_of(const call good[FUNCTIONS], uint8_t file[RUN], uint32_t at) {
     const call *payloads = &good[SEAL_RUN];
     call seal = good[SEAL], open = good[OPEN];
     seal.place = open.place = payloads->place + at;
     seal.payload = (slice){payloads->data.bytes + SIZE * at, ((const uint16_t *)payloads->list.bytes)[at]};
-    seal.data.bytes = file + SIZE * at;
     seal.after = open.data.bytes = payloads->after + SIZE * at;
     open.after = good[OPEN_RUN].after + SIZE * at;
     open.payload_length = seal.payload.length;
-    hold_failing(open, file + SIZE * at, 12);
-    hold(&seal);
-    hold(&open);
-    memcpy(file + SIZE * at, seal.after, SIZE);
+    hold_slot(seal, &open, file + SIZE * at);
 }
 
 /* A new file of zeros, into which two blocks are sealed, one by one. Until both are, the run is not opened, and the
@@ -137,27 +149,36 @@ static void hold_new_file(const call good[FUNCTIONS], uint32_t sealed_first) {
     run.number = 12;
     run.failed_place = run.place;
     hold(&run);
-    hold_sealing(good, file, sealed_first);
+    hold_slot_of(good, file, sealed_first);
     run.failed_place = run.place + 1 - sealed_first;
     hold(&run);
-    hold_sealing(good, file, 1 - sealed_first);
+    hold_slot_of(good, file, 1 - sealed_first);
     hold(&opened);
 }
 
-static void hold_blank(slice key) {
-    call good[FUNCTIONS], c = {.key = key, .pack = 1, .place = 2};
+static void hold_blank(scheme s, slice key) {
+    uint8_t slot[SIZE] = {0};
+    call good[FUNCTIONS], c = {.name = by(s, OPEN), .key = key, .pack = 1, .place = 2};
     make_good(good, key);
-    hold_zeros(key);
+    hold_zeros(c);
     hold_sums(c);
-    hold_deciphering(key);
-    hold_deciphering_to_zeros(key);
+    hold_deciphering(s, key);
+    hold_deciphering_to_zeros(s, key);
+    TRYING("a new slot");
+    hold_slot(good[by(s, SEAL)], &good[by(s, OPEN)], slot);
+    hold_keys(c);
+}
+
+static void hold_new_files(slice key) {
+    call good[FUNCTIONS];
+    make_good(good, key);
     hold_new_file(good, 0);
     hold_new_file(good, 1);
-    hold_keys(key);
-    hold_bits(c);
 }
 
 void blank(void) {
-    under_each_key(hold_blank);
+    by_each_scheme(hold_blank);
+    under_each_key(hold_new_files);
+    hold_bits();
     printf("%lu calls\n", calls);
 }

@@ -12,6 +12,7 @@ import shutil
 from harness import ROOT, SECONDS, Differs, ended
 
 HERE = pathlib.Path(__file__).resolve().parent
+BENCH = ROOT / "bench"
 CC = os.environ.get("CC") or "cc"  # one word, as is the other
 CXX = os.environ.get("CXX") or "c++"
 STRICT = ["-O2", "-Wall", "-Wextra", "-Wpedantic", "-Werror"]
@@ -20,7 +21,9 @@ INSTALLED = ["include/boards.h", "lib/libboards.a", "lib/pkgconfig/boards.pc"]
 INSTALLING = 3600  # seconds: the library is proved before it is compiled
 
 # What the archive defines, and what it may ask for: the header says so.
-DEFINED = ["boards_decipher", "boards_encipher", "boards_find", "boards_open",
+DEFINED = ["boards_decipher", "boards_encipher", "boards_find",
+           "boards_forward_decipher", "boards_forward_encipher",
+           "boards_forward_open", "boards_forward_seal", "boards_open",
            "boards_open_run", "boards_seal", "boards_seal_run"]
 ASKED_FOR = {"memcpy", "memset"}
 
@@ -91,8 +94,10 @@ class Builder:
         self.includes = ["-I", prefix / "include"]
         self.archive = ["-L", prefix / "lib", "-lboards"]
         self.client = folder / "client"
+        # A wrong library takes its AES from where one is measured.
+        self.sources = [*HERE.glob("*.c"), BENCH / "aes.c"]
         # The client without library.c, which alone needs the archive.
-        self.objects = [f"{path.stem}.o" for path in HERE.glob("*.c")
+        self.objects = [f"{path.stem}.o" for path in self.sources
                         if path.stem != "library"]
 
     def compile(self, compiler, standard, *arguments):
@@ -107,7 +112,8 @@ class Builder:
         self.compile(compiler, standard, "-fsyntax-only", path, *self.includes)
 
     def build_client(self):
-        self.compile(CC, "c99", "-c", *HERE.glob("*.c"), *self.includes)
+        self.compile(CC, "c99", "-c", *self.sources, *self.includes, "-I",
+                     BENCH)
         self.compile(CC, "c99", "-o", self.client, *self.objects, "library.o",
                      *self.archive, "-pthread")
         if not self.client.exists():

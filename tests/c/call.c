@@ -9,16 +9,31 @@
 /* Bytes, as no case has more in one slice, or in a pack or a run; and a value for errno. */
 enum { ROOM = 8192, PACK_ROOM = 130 * 512 + 1, UNTOUCHED = 12345 };
 
-const char *const function_names[FUNCTIONS] = {"encipher", "decipher", "seal", "open", "find", "seal_run", "open_run"};
+const char *const function_names[FUNCTIONS] = {
+    "encipher", "decipher", "seal", "open",
+    "forward_encipher", "forward_decipher", "forward_seal", "forward_open",
+    "find", "seal_run", "open_run",
+};
+
+enum { OF_A_SCHEME = FIND / SCHEMES }; /* so many functions each */
+
+function kind_of(function name) { return name < FIND ? (function)(name % OF_A_SCHEME) : name; }
+
+scheme scheme_of(function name) { return name < FIND ? (scheme)(name / OF_A_SCHEME) : HCH; }
+
+function by(scheme s, function kind) { return (function)((int)s * OF_A_SCHEME + (int)kind); }
 
 unsigned long calls;
 
 static lent key, tweak, payload, list, data, pack, run, failed;
 
-/* The slices that a function reads and may not write. */
+/* The slices that a function of this kind reads and may not write. */
 static lent *const read_slices[FUNCTIONS][3] = {
-    {&key, &tweak}, {&key, &tweak}, {&key, &payload}, {&key}, {NULL}, {&key, &list}, {&key},
+    [ENCIPHER] = {&key, &tweak}, [DECIPHER] = {&key, &tweak}, [SEAL] = {&key, &payload}, [OPEN] = {&key},
+    [SEAL_RUN] = {&key, &list},  [OPEN_RUN] = {&key},
 };
+
+static lent *const *read_by(const call *c) { return read_slices[kind_of(c->name)]; }
 
 static slice given(const call *c, const lent *l) {
     return l == &key ? c->key : l == &tweak ? c->tweak : l == &list ? c->list : c->payload;
@@ -56,11 +71,12 @@ uint32_t answer_of(const library *l, const call *c) {
     uint8_t *d = (uint8_t *)c->data.bytes; /* the one slice that is written, but by FIND */
     uint16_t *numbers = (uint16_t *)c->list.bytes; /* and OPEN_RUN writes these */
     size_t length = c->data.length, count = c->list.length / sizeof *numbers + c->more;
-    switch (c->name) {
-    case ENCIPHER: return l->encipher(k->bytes, k->length, t->bytes, t->length, d, length);
-    case DECIPHER: return l->decipher(k->bytes, k->length, t->bytes, t->length, d, length);
-    case SEAL: return l->seal(k->bytes, k->length, p->bytes, p->length, c->pack, c->place, d, length);
-    case OPEN: return l->open(k->bytes, k->length, c->pack, c->place, d, length);
+    const scheme_functions *its = &l->by[scheme_of(c->name)];
+    switch (kind_of(c->name)) {
+    case ENCIPHER: return its->encipher(k->bytes, k->length, t->bytes, t->length, d, length);
+    case DECIPHER: return its->decipher(k->bytes, k->length, t->bytes, t->length, d, length);
+    case SEAL: return its->seal(k->bytes, k->length, p->bytes, p->length, c->pack, c->place, d, length);
+    case OPEN: return its->open(k->bytes, k->length, c->pack, c->place, d, length);
     case FIND: return l->find(d, length, c->place);
     case SEAL_RUN: return l->seal_run(k->bytes, k->length, c->pack, c->place, numbers, count, d, length);
     default: return l->open_run(k->bytes, k->length, c->pack, c->place, numbers, count, d, length, c->failed);
@@ -81,16 +97,17 @@ static uint32_t answer_lent(call c) {
 static void describe(const call *c, position where) {
     const char *name = function_names[c->name], *how = position_name(where);
     size_t k = c->key.length, d = c->data.length;
-    if (c->name == SEAL) {
+    function kind = kind_of(c->name);
+    if (kind == SEAL) {
         snprintf(called, sizeof called,
                  "%s(key of %zu, payload of %zu, pack %" PRIu64 ", place %" PRIu32 ", block of %zu), %s", name, k,
                  c->payload.length, c->pack, c->place, d, how);
-    } else if (c->name == OPEN) {
+    } else if (kind == OPEN) {
         snprintf(called, sizeof called, "%s(key of %zu, pack %" PRIu64 ", place %" PRIu32 ", block of %zu), %s", name,
                  k, c->pack, c->place, d, how);
-    } else if (c->name == FIND) {
+    } else if (kind == FIND) {
         snprintf(called, sizeof called, "%s(pack of %zu, place %" PRIu32 "), %s", name, d, c->place, how);
-    } else if (c->name == SEAL_RUN || c->name == OPEN_RUN) {
+    } else if (kind == SEAL_RUN || kind == OPEN_RUN) {
         snprintf(called, sizeof called,
                  "%s(key of %zu, pack %" PRIu64 ", first place %" PRIu32 ", list of %zu, run of %zu), %s", name, k,
                  c->pack, c->place, c->list.length / 2 + c->more, d, how);
@@ -114,7 +131,7 @@ static const uint32_t no_place = 0xdeadbeef;
 
 /* All that the function may touch. */
 static void lend(const call *c, position where) {
-    lent *const *read_only = read_slices[c->name];
+    lent *const *read_only = read_by(c);
     for (int i = 0; read_only[i] != NULL; i++) {
         slice s = given(c, read_only[i]);
         lent_put(read_only[i], s.bytes, s.length, read_only[i] == &list ? aligned(where, 2) : where);
@@ -141,7 +158,7 @@ void hold_at(const call *c, position where) {
     make_rooms();
     describe(c, where);
     lend(c, where);
-    lent *const *read_only = read_slices[c->name];
+    lent *const *read_only = read_by(c);
 
     errno = UNTOUCHED;
     uint32_t number = answer_lent(*c);
@@ -150,7 +167,7 @@ void hold_at(const call *c, position where) {
     lent_check(data_room(c->name), c->after);
     if (c->name == OPEN_RUN) hold_written(c);
     for (int i = 0; read_only[i] != NULL; i++) lent_check(read_only[i], given(c, read_only[i]).bytes);
-    if (c->name == OPEN && number == 0 && boards_payload_length(data.bytes) != c->payload_length) {
+    if (kind_of(c->name) == OPEN && number == 0 && boards_payload_length(data.bytes) != c->payload_length) {
         DIFFERS("boards_payload_length is %zu in the place of %zu", boards_payload_length(data.bytes),
                 c->payload_length);
     }
@@ -159,7 +176,7 @@ void hold_at(const call *c, position where) {
 }
 
 static int something_empty(const call *c) {
-    lent *const *read_only = read_slices[c->name];
+    lent *const *read_only = read_by(c);
     for (int i = 0; read_only[i] != NULL; i++) {
         if (given(c, read_only[i]).length == 0) return 1;
     }
@@ -193,4 +210,8 @@ slice key_of(size_t length) {
 
 void under_each_key(void (*work)(slice key)) {
     for (int i = 0; i < KEYS; i++) work(key_of(key_lengths[i]));
+}
+
+void by_each_scheme(void (*work)(scheme s, slice key)) {
+    for (int i = 0; i < SCHEMES * KEYS; i++) work((scheme)(i % SCHEMES), key_of(key_lengths[i / SCHEMES]));
 }

@@ -5,9 +5,24 @@
 #include "lent.h"
 #include "library.h"
 
-typedef enum { ENCIPHER, DECIPHER, SEAL, OPEN, FIND, SEAL_RUN, OPEN_RUN, FUNCTIONS } function;
+/* The functions. Those of a scheme stand together, in the same order for each. */
+typedef enum {
+    ENCIPHER, DECIPHER, SEAL, OPEN,
+    FORWARD_ENCIPHER, FORWARD_DECIPHER, FORWARD_SEAL, FORWARD_OPEN,
+    FIND, SEAL_RUN, OPEN_RUN,
+    FUNCTIONS
+} function;
 
 extern const char *const function_names[FUNCTIONS];
+
+/* What the function does: ENCIPHER, DECIPHER, SEAL or OPEN if it is a scheme's, or else the function itself. */
+function kind_of(function name);
+
+/* Its scheme, HCH where it has none. */
+scheme scheme_of(function name);
+
+/* The scheme's function of this kind. */
+function by(scheme s, function kind);
 
 typedef struct {
     const uint8_t *bytes;
@@ -17,7 +32,7 @@ typedef struct {
 typedef struct {
     function name;
     slice key;                 /* of all but FIND */
-    slice tweak;               /* of ENCIPHER and DECIPHER alone */
+    slice tweak;               /* of ENCIPHER and DECIPHER alone, here and below by any scheme */
     slice payload;             /* of SEAL; of FIND the part that is found, or nothing, and then it is not compared */
     slice list;                /* of SEAL_RUN and OPEN_RUN: the bytes of its numbers, two each */
     size_t more;               /* of these two: by so much the count is above the numbers that the list has */
@@ -54,7 +69,8 @@ void fill(uint8_t *bytes, size_t length, uint32_t seed);
 enum { LONGEST_KEY = 288 };
 slice key_of(size_t length);
 
-/* The work under a good key of each length. */
+/* The work under a good key of each length, and by each scheme. */
 void under_each_key(void (*work)(slice key));
+void by_each_scheme(void (*work)(scheme s, slice key));
 
 #endif

@@ -12,16 +12,19 @@ import random
 import hch
 import pack as packs
 import runs
-from cases_pack import by_hand, with_bit, with_bytes
+import schemes
+from cases_pack import with_bit, with_bytes
 from cases_runs import entries
 from harness import ROOT
 from hch import Refused
-from pack import LAST_PLACE, MOST, SIZE, plain_block, seal
+from pack import LAST_PLACE, MOST, SIZE, plain_block
 
 KEYS = 16, 32  # bytes: "accept 16 or 32 bytes"
 
-# Up to three blocks and a byte, about 512 bytes and about 4,096.
-LENGTHS = [*range(50), *range(495, 514), *range(4080, 4113)]
+# Up to four blocks and two bytes, about 512 bytes and about 4,096, and some
+# between them.
+LENGTHS = [*range(67), 83, 100, 256, 300, *range(495, 514), 700, 1000, 1236,
+           2048, 3000, *range(4080, 4113)]
 PLACES = [0, 1, 258, 65534, LAST_PLACE, 65536, 65537, 1 << 31, (1 << 32) - 1]
 PACKS = [0, 1, (1 << 63) - 1, 1 << 63, (1 << 64) - 2, (1 << 64) - 1]
 
@@ -46,46 +49,64 @@ def left_of(lent, after):
     return after.hex() or "-"
 
 
-def both(key, tweak, board):
-    """The board enciphered, and the result deciphered; or both refused."""
-    try:
-        enciphered = hch.encipher(key, tweak, board)
-    except Refused:
-        number = hch.number_of(key, tweak, board)
-        for name in ("encipher", "decipher"):
-            yield case(name, key, tweak, data=board, number=number)
-    else:
-        yield case("encipher", key, tweak, data=board, after=enciphered)
-        yield case("decipher", key, tweak, data=enciphered, after=board)
+class Calls:
+    """The calls of a scheme, whose functions begin with this prefix."""
+
+    def __init__(self, scheme, prefix=""):
+        self.scheme, self.prefix = scheme, prefix
+
+    def case(self, name, *arguments, **others):
+        return case(self.prefix + name, *arguments, **others)
+
+    def both(self, key, tweak, board):
+        """The board enciphered, and the result deciphered; or both
+        refused."""
+        try:
+            enciphered = self.scheme.encipher(key, tweak, board)
+        except Refused:
+            number = hch.number_of(
+                key, tweak, board, self.scheme.directions.values())
+            for name in ("encipher", "decipher"):
+                yield self.case(name, key, tweak, data=board, number=number)
+        else:
+            yield self.case("encipher", key, tweak, data=board,
+                            after=enciphered)
+            yield self.case("decipher", key, tweak, data=enciphered,
+                            after=board)
+
+    def sealing(self, key, payload, pack, place, block):
+        """The payload sealed into a block that holds these bytes."""
+        try:
+            number, after = 0, self.scheme.seal(
+                key, payload, pack, place, len(block))
+        except Refused as refused:
+            number, after = refused.number, None
+        return self.case("seal", key, payload=payload, data=block, pack=pack,
+                         place=place, number=number, after=after)
+
+    def opening(self, key, pack, place, block):
+        try:
+            number, (used, after) = 0, self.scheme.open(
+                key, pack, place, block)
+        except Refused as refused:
+            number, used, after = refused.number, 0, None
+        return self.case("open", key, data=block, pack=pack, place=place,
+                         number=number, after=after, used=used)
+
+    def pair(self, key, payload, pack, place, block):
+        """A payload within the limits sealed into a block of 512 bytes, and
+        then opened: to the plain block of 01, as the reference's own check()
+        says."""
+        sealed = self.scheme.seal(key, payload, pack, place)
+        yield self.case("seal", key, payload=payload, data=block, pack=pack,
+                        place=place, after=sealed)
+        yield self.case("open", key, data=sealed, pack=pack, place=place,
+                        after=plain_block(payload, pack, place),
+                        used=len(payload))
 
 
-def sealing(key, payload, pack, place, block):
-    """The payload sealed into a block that holds these bytes."""
-    try:
-        number, after = 0, seal(key, payload, pack, place, len(block))
-    except Refused as refused:
-        number, after = refused.number, None
-    return case("seal", key, payload=payload, data=block, pack=pack,
-                place=place, number=number, after=after)
-
-
-def opening(key, pack, place, block):
-    try:
-        number, (used, after) = 0, packs.open(key, pack, place, block)
-    except Refused as refused:
-        number, used, after = refused.number, 0, None
-    return case("open", key, data=block, pack=pack, place=place,
-                number=number, after=after, used=used)
-
-
-def pair(key, payload, pack, place, block):
-    """A payload within the limits sealed into a block of 512 bytes, and then
-    opened: to the plain block of 01, as the reference's own check() says."""
-    sealed = seal(key, payload, pack, place)
-    yield case("seal", key, payload=payload, data=block, pack=pack,
-               place=place, after=sealed)
-    yield case("open", key, data=sealed, pack=pack, place=place,
-               after=plain_block(payload, pack, place), used=len(payload))
+HCH = Calls(schemes.HCH)
+FORWARD = Calls(schemes.FORWARD, "forward_")
 
 
 def sealing_run(key, pack, place, lengths, run):
@@ -119,83 +140,95 @@ def under_each_key(group):
     return cases
 
 
-@under_each_key
-def data_lengths(rng, k):
+def by_each_scheme(group):
+    """The cases of a group that is given the calls of a scheme and the length
+    of its keys, for each."""
+    @functools.wraps(group)
+    def cases(rng):
+        for k, calls in itertools.product(KEYS, (HCH, FORWARD)):
+            yield from group(rng, k, calls)
+    return cases
+
+
+@by_each_scheme
+def data_lengths(rng, k, calls):
     for length in LENGTHS:
-        yield from both(rng.randbytes(k), rng.randbytes(16),
-                        rng.randbytes(length))
+        yield from calls.both(rng.randbytes(k), rng.randbytes(16),
+                              rng.randbytes(length))
 
 
-@under_each_key
-def key_and_tweak_lengths(rng, k):
+@by_each_scheme
+def key_and_tweak_lengths(rng, k, calls):
     for length in (*range(35), 48, 64, 272, 288):
         some, good, tweak, board, block = map(
             rng.randbytes, (length, k, 16, 40, SIZE))
-        yield from both(some, tweak, board)
-        yield from both(good, some, board)
-        yield from both(some, some, board)
-        yield sealing(some, board, 1, 2, block)
+        yield from calls.both(some, tweak, board)
+        yield from calls.both(good, some, board)
+        yield from calls.both(some, some, board)
+        yield calls.sealing(some, board, 1, 2, block)
         key = some if length in KEYS else good
-        yield opening(some, 1, 2, seal(key, board, 1, 2))
+        yield calls.opening(some, 1, 2, calls.scheme.seal(key, board, 1, 2))
 
 
-def payloads(rng):
+@by_each_scheme
+def payloads(rng, k, calls):
     """Even lengths under short keys, and odd ones under long keys: the client
     itself seals and opens each length under both."""
-    for length in range(501):
-        k = KEYS[length % 2]
+    for length in range(KEYS.index(k), 501, len(KEYS)):
         key, payload, block = map(rng.randbytes, (k, length, SIZE))
         pack, place = rng.getrandbits(64), rng.getrandbits(16)
         if length <= MOST:
-            yield from pair(key, payload, pack, place, block)
+            yield from calls.pair(key, payload, pack, place, block)
         else:
-            yield sealing(key, payload, pack, place, block)
+            yield calls.sealing(key, payload, pack, place, block)
 
 
-@under_each_key
-def lent_blocks(rng, k):
+@by_each_scheme
+def lent_blocks(rng, k, calls):
     """For opening, a good block cut short, or with others behind it; and
     zeros."""
     key, payload = rng.randbytes(k), rng.randbytes(77)
     pack, place = rng.getrandbits(64), rng.getrandbits(16)
-    good = seal(key, payload, pack, place)
+    good = calls.scheme.seal(key, payload, pack, place)
     for length in LENGTHS:
-        yield sealing(key, payload, pack, place, rng.randbytes(length))
-        yield opening(key, pack, place, (9 * good)[:length])
-        yield opening(key, pack, place, bytes(length))
+        yield calls.sealing(key, payload, pack, place, rng.randbytes(length))
+        yield calls.opening(key, pack, place, (9 * good)[:length])
+        yield calls.opening(key, pack, place, bytes(length))
 
 
-@under_each_key
-def places_and_packs(rng, k):
+@by_each_scheme
+def places_and_packs(rng, k, calls):
     """For opening at a place over 65,535, a block that would pass its check,
     which is looked at last. Zeros are opened for each pack and place."""
     key = rng.randbytes(k)
     for pack, place in itertools.product(PACKS, PLACES):
-        yield opening(key, pack, place, bytes(SIZE))
+        yield calls.opening(key, pack, place, bytes(SIZE))
     for length, pack, place in itertools.product((0, 20, MOST), PACKS, PLACES):
         payload, block = rng.randbytes(length), rng.randbytes(SIZE)
         if place <= LAST_PLACE:
-            yield from pair(key, payload, pack, place, block)
+            yield from calls.pair(key, payload, pack, place, block)
         else:
-            yield sealing(key, payload, pack, place, block)
-            yield opening(key, pack, place, by_hand(
+            yield calls.sealing(key, payload, pack, place, block)
+            yield calls.opening(key, pack, place, calls.scheme.by_hand(
                 key, pack, place, plain_block(payload, pack, place)))
 
 
-@under_each_key
-def wrong_blocks(rng, k):
-    """Blocks of another place, pack or key, be it the same one twice or its
-    first half; such as decipher to a plain block with one part of its check
-    wrong; and zeros, but for one bit or for none."""
+@by_each_scheme
+def wrong_blocks(rng, k, calls):
+    """Blocks of another place, pack or scheme, or of another key, be it the
+    same one twice or its first half; such as decipher to a plain block with
+    one part of its check wrong; and zeros, but for one bit or for none."""
     key, payload, full = map(rng.randbytes, (k, 20, MOST))
     pack, place = rng.getrandbits(64), 3
-    good = seal(key, payload, pack, place)
-    yield opening(key, pack, place, good)
-    yield opening(key, pack, 4, good)
-    yield opening(key, pack ^ 1, place, good)
-    yield opening(key, pack ^ 1 << 63, place, good)
+    good = calls.scheme.seal(key, payload, pack, place)
+    yield calls.opening(key, pack, place, good)
+    yield calls.opening(key, pack, 4, good)
+    yield calls.opening(key, pack ^ 1, place, good)
+    yield calls.opening(key, pack ^ 1 << 63, place, good)
     for other in (rng.randbytes(k), (2 * key)[:sum(KEYS) - k]):
-        yield opening(other, pack, place, good)
+        yield calls.opening(other, pack, place, good)
+    for other in (HCH, FORWARD):
+        yield other.opening(key, pack, place, good)
 
     plain, filled = (plain_block(used, pack, place)
                      for used in (payload, full))
@@ -206,27 +239,41 @@ def wrong_blocks(rng, k):
               for used in (0, 19, 497, 511, 512, 65535)]
     for block in wrong:
         assert not packs.passes(block, pack, place)
-        yield opening(key, pack, place, by_hand(key, pack, place, block))
+        yield calls.opening(key, pack, place, calls.scheme.by_hand(
+            key, pack, place, block))
     for at, bit in ((0, 0), (0, 0x80), (1, 1), (256, 2), (510, 8), (511, 1)):
-        yield opening(key, pack, place, with_bit(bytes(SIZE), at, bit))
+        yield calls.opening(key, pack, place, with_bit(bytes(SIZE), at, bit))
 
 
-@under_each_key
-def refusals(rng, k):
+def with_neighbours(good):
+    """Strings with a byte less and a byte more than a good one has, and it."""
+    return [good[:-1], good, good + good[:1]]
+
+
+@by_each_scheme
+def refusals(rng, k, calls):
     """All the conditions together, each of them met or not."""
     good = rng.randbytes(k)
-    keys = [good[:-1], good, good + good[:1]]
-    tweaks = [rng.randbytes(length) for length in (15, 16, 17)]
-    for key, tweak, length in itertools.product(keys, tweaks, (15, 16, 4097)):
-        yield from both(key, tweak, rng.randbytes(length))
-    block = seal(good, b"ABC", 1, 3)
+    keys, tweaks = with_neighbours(good), with_neighbours(rng.randbytes(16))
+    least = calls.scheme.least
+    for key, tweak, length in itertools.product(
+            keys, tweaks, (least - 1, least, 4097)):
+        yield from calls.both(key, tweak, rng.randbytes(length))
+    block = calls.scheme.seal(good, b"ABC", 1, 3)
     for key, length, used, place in itertools.product(
             keys, (511, SIZE, 513), (MOST, MOST + 1), (3, 65536 + 3)):
-        yield sealing(key, bytes(used), 1, place, (2 * block)[:length])
+        yield calls.sealing(key, bytes(used), 1, place, (2 * block)[:length])
     for key, length, place, pack in itertools.product(
             keys, (511, SIZE, 513), (3, 65536 + 3), (1, 2)):
         for lent in (2 * block, bytes(2 * SIZE)):
-            yield opening(key, pack, place, lent[:length])
+            yield calls.opening(key, pack, place, lent[:length])
+
+
+@under_each_key
+def refusals_of_runs(rng, k):
+    """The same of runs."""
+    good = rng.randbytes(k)
+    keys = with_neighbours(good)
     run = runs.seal_run(good, 1, 3, (0, MOST), rng.randbytes(2 * SIZE))
     for key, length, count, used, place, pack in itertools.product(
             keys, (1023, 1024, 1025), (1, 2, 3), (MOST, MOST + 1),
@@ -239,9 +286,9 @@ def refusals(rng, k):
 
 
 def stored_lines(rng):
-    """The lines of crates/vectors that name one of the seven calls, with
-    their stored answers; README.md has the format. `no` alone is a line that
-    no call is made for. But for packs and runs, the client has room for 8,192
+    """The lines of crates/vectors that name one of the calls, with their
+    stored answers; README.md has the format. `no` alone is a line that no call
+    is made for. But for packs and runs, the client has room for 8,192
     bytes."""
     folder = ROOT / "crates" / "vectors"
     lines = (folder / "stdin").read_bytes().split(b"\n")
@@ -285,7 +332,7 @@ def left_open(answer):
     return number, after, 0 if number else packs.u_of(after)
 
 
-def stored_hch(name, read):
+def stored_data(name, read):
     def stored(_, fields, answer):
         key, tweak, data = from_hex(*fields)
         number, after, _ = read(answer)
@@ -294,10 +341,11 @@ def stored_hch(name, read):
 
 
 def stored_pack(name, read):
-    """The last field is the block; `ps` lends none, and gets any bytes."""
+    """The last field is the block; `ps` and `fs` lend none, and get any
+    bytes."""
     def stored(rng, fields, answer):
         key, pack, place, *rest = from_hex(*fields)
-        if name == "seal" and len(rest) == 1:
+        if name.endswith("seal") and len(rest) == 1:
             rest.append(rng.randbytes(SIZE))
         *payload, block = rest
         number, after, used = read(answer)
@@ -331,19 +379,30 @@ def stored_run(name):
     return stored
 
 
+def stored_scheme(prefix, data, block, lent):
+    """The lines of a scheme, by the first letters of those on data, of those
+    on blocks, and of those that show what is left."""
+    yield data + b"e", stored_data(f"{prefix}encipher", outcome)
+    yield data + b"d", stored_data(f"{prefix}decipher", outcome)
+    yield block + b"s", stored_pack(f"{prefix}seal", outcome)
+    yield block + b"o", stored_pack(f"{prefix}open", opened)
+    yield lent + b"e", stored_data(f"{prefix}encipher", left)
+    yield lent + b"d", stored_data(f"{prefix}decipher", left)
+    yield lent + b"s", stored_pack(f"{prefix}seal", left)
+    yield lent + b"o", stored_pack(f"{prefix}open", left_open)
+
+
 STORED = {
-    b"he": stored_hch("encipher", outcome),
-    b"hd": stored_hch("decipher", outcome),
-    b"ps": stored_pack("seal", outcome), b"po": stored_pack("open", opened),
-    b"le": stored_hch("encipher", left), b"ld": stored_hch("decipher", left),
-    b"ls": stored_pack("seal", left), b"lo": stored_pack("open", left_open),
+    **dict(stored_scheme("", b"h", b"p", b"l")),
+    **dict(stored_scheme("forward_", b"f", b"f", b"g")),
     b"pf": stored_find,
     b"rs": stored_run("seal_run"), b"ro": stored_run("open_run"),
 }
 LONG = (b"pf", 0), (b"rs", 4), (b"ro", 4)  # the fields with a pack or a run
 
 GROUPS = [data_lengths, key_and_tweak_lengths, payloads, lent_blocks,
-          places_and_packs, wrong_blocks, refusals, stored_lines]
+          places_and_packs, wrong_blocks, refusals, refusals_of_runs,
+          stored_lines]
 
 
 def lines(group):

@@ -7,9 +7,9 @@ static const struct {
     const char *name;
     void (*run)(void);
 } groups[] = {
-    {"cases", cases},     {"order", order},   {"opening", opening}, {"blank", blank},
-    {"finding", finding}, {"runs", runs},     {"keys", keys},       {"slices", slices},
-    {"stack", stack},     {"header", header}, {"threads", threads}, {"wrong", wrong},
+    {"cases", cases},     {"order", order},     {"schemes", schemes}, {"opening", opening}, {"blank", blank},
+    {"finding", finding}, {"runs", runs},       {"keys", keys},       {"slices", slices},   {"stack", stack},
+    {"header", header},   {"threads", threads}, {"wrong", wrong},
 };
 
 int main(int count, char **arguments) {

@@ -12,27 +12,47 @@ static bool said(const char *what) {
     return false;
 }
 
-static bool hch(size_t k) {
+// The functions of a scheme.
+struct scheme {
+    uint32_t (*encipher)(const uint8_t *, size_t, const uint8_t *, size_t, uint8_t *, size_t);
+    uint32_t (*decipher)(const uint8_t *, size_t, const uint8_t *, size_t, uint8_t *, size_t);
+    uint32_t (*seal)(const uint8_t *, size_t, const uint8_t *, size_t, uint64_t, uint32_t, uint8_t *, size_t);
+    uint32_t (*open)(const uint8_t *, size_t, uint64_t, uint32_t, uint8_t *, size_t);
+    size_t least;
+    uint32_t too_short;
+};
+
+static const scheme schemes[2] = {
+    {boards_encipher, boards_decipher, boards_seal, boards_open, BOARDS_DATA_MIN, BOARDS_DATA_TOO_SHORT},
+    {boards_forward_encipher, boards_forward_decipher, boards_forward_seal, boards_forward_open,
+     BOARDS_FORWARD_DATA_MIN, BOARDS_FORWARD_DATA_TOO_SHORT},
+};
+
+static bool data(const scheme &by, size_t k) {
     const uint8_t tweak[BOARDS_TWEAK_SIZE] = {2};
-    uint8_t board[20] = {3};
-    uint8_t same[20] = {3};
-    if (boards_encipher(key, k, tweak, sizeof tweak, board, sizeof board) != BOARDS_DONE)
+    uint8_t board[BOARDS_FORWARD_DATA_MIN] = {3};
+    const uint8_t same[BOARDS_FORWARD_DATA_MIN] = {3};
+    if (by.encipher(key, k, tweak, sizeof tweak, board, by.least - 1) != by.too_short)
+        return said("not too short");
+    if (by.encipher(key, k, tweak, sizeof tweak, board, sizeof board) != BOARDS_DONE)
         return said("not enciphered");
     if (std::memcmp(board, same, sizeof board) == 0) return said("enciphered to itself");
-    if (boards_decipher(key, k, tweak, sizeof tweak, board, sizeof board) != BOARDS_DONE)
+    if (by.decipher(key, k, tweak, sizeof tweak, board, sizeof board) != BOARDS_DONE)
         return said("not deciphered");
     return std::memcmp(board, same, sizeof board) == 0 || said("deciphered to another board");
 }
 
-static bool block(size_t k) {
+static bool block(const scheme &by, const scheme &other, size_t k) {
     const uint8_t payload[3] = {0x41, 0x42, 0x43};
     uint8_t block[BOARDS_BLOCK_SIZE] = {0};
-    if (boards_open(key, k, 1, 3, block, sizeof block) != BOARDS_BLANK) return said("zeros that are not blank");
-    if (boards_seal(key, k, payload, sizeof payload, 1, 3, block, sizeof block) != BOARDS_DONE)
+    if (by.open(key, k, 1, 3, block, sizeof block) != BOARDS_BLANK) return said("zeros that are not blank");
+    if (by.seal(key, k, payload, sizeof payload, 1, 3, block, sizeof block) != BOARDS_DONE)
         return said("not sealed");
-    if (boards_open(key, k, 1, 4, block, sizeof block) != BOARDS_CHECK_FAILED)
+    if (by.open(key, k, 1, 4, block, sizeof block) != BOARDS_CHECK_FAILED)
         return said("opened as another place");
-    if (boards_open(key, k, 1, 3, block, sizeof block) != BOARDS_DONE) return said("not opened");
+    if (other.open(key, k, 1, 3, block, sizeof block) != BOARDS_CHECK_FAILED)
+        return said("opened by the other scheme");
+    if (by.open(key, k, 1, 3, block, sizeof block) != BOARDS_DONE) return said("not opened");
     if (boards_payload_length(block) != sizeof payload) return said("another length");
     return std::memcmp(block, payload, sizeof payload) == 0 || said("another payload");
 }
@@ -72,7 +92,12 @@ static bool run(size_t k) {
     return std::memcmp(opened, lengths, sizeof opened) == 0 || said("other lengths");
 }
 
-static bool all(size_t k) { return hch(k) && block(k) && pack(k) && run(k); }
+static bool all(size_t k) {
+    for (int i = 0; i < 2; i++) {
+        if (!data(schemes[i], k) || !block(schemes[i], schemes[1 - i], k)) return false;
+    }
+    return pack(k) && run(k);
+}
 
 int main() {
     if (!all(BOARDS_KEY_SIZE) || !all(BOARDS_LONG_KEY_SIZE)) return 1;

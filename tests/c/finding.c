@@ -1,5 +1,5 @@
 /* Finding: its number for each length of a pack and each place, and the parts of a pack, which are sealed and opened
-   where they stand. */
+   where they stand, by each scheme. */
 #include "groups.h"
 #include "library.h"
 #include "report.h"
@@ -11,6 +11,7 @@
 enum { SIZE = 512, MOST = 128, ROOM = 130 * SIZE + 1 };
 
 static const uint64_t pack_number = 0x0123456789abcdef;
+static scheme chosen;
 static slice key;
 static uint8_t some[ROOM];
 
@@ -80,12 +81,12 @@ static void seal_at(uint8_t *block, uint32_t place, uint32_t seed) {
     uint8_t payload[497];
     size_t used = seed * 53 % 497;
     fill(payload, used, seed);
-    uint32_t number = boards.seal(key.bytes, key.length, payload, used, pack_number, place, block, SIZE);
+    uint32_t number = boards.by[chosen].seal(key.bytes, key.length, payload, used, pack_number, place, block, SIZE);
     if (number != 0) DIFFERS("the block of place %" PRIu32 " is not sealed: %" PRIu32, place, number);
 }
 
 static void open_at(uint8_t *block, uint32_t place) {
-    uint32_t number = boards.open(key.bytes, key.length, pack_number, place, block, SIZE);
+    uint32_t number = boards.by[chosen].open(key.bytes, key.length, pack_number, place, block, SIZE);
     if (number != 0) DIFFERS("the block of place %" PRIu32 " is not opened: %" PRIu32, place, number);
 }
 
@@ -122,8 +123,9 @@ static void hold_parts(uint32_t n, position where) {
     }
 }
 
-static void hold_packs(slice k) {
+static void hold_packs(scheme s, slice k) {
     static const uint32_t counts[] = {1, 2, 3, MOST - 1, MOST};
+    chosen = s;
     key = k;
     for (size_t i = 0; i < COUNT(counts); i++) {
         hold_parts(counts[i], FRONT);
@@ -138,6 +140,6 @@ void finding(void) {
     hold_lengths();
     hold_no_memory();
     lent_map(&pack, "pack", ROOM);
-    under_each_key(hold_packs);
+    by_each_scheme(hold_packs);
     printf("%lu calls\n", calls);
 }

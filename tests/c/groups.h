@@ -6,6 +6,7 @@
 
 void cases(void);   /* the lines of standard input, made by the reference program */
 void order(void);   /* the order of the refusals */
+void schemes(void); /* the schemes beside each other */
 void opening(void); /* blocks that do not open */
 void blank(void);   /* blocks of zeros, and such as are nearly so */
 void finding(void); /* the blocks of a pack, found by their places */
@@ -15,6 +16,6 @@ void slices(void);  /* where the bytes stand, and how many they are */
 void stack(void);   /* how much stack a call takes */
 void header(void);  /* the constants and the sentences of the header */
 void threads(void); /* eight threads at once */
-void wrong(void);   /* wrong libraries, each of which one of the groups above has to report */
+void wrong(void);   /* wrong libraries, each of which one of the groups above has to report; reads a file of cases */
 
 #endif

@@ -4,14 +4,18 @@ where the group reads them.
 
 import concurrent.futures
 import functools
+import itertools
 import re
+import tempfile
 
 import cases
 from build import done
 from harness import Differs, ended
 
 ALONE = {
-    "order": "the order of refusals", "opening": "blocks that do not open",
+    "order": "the order of refusals",
+    "schemes": "the schemes beside each other",
+    "opening": "blocks that do not open",
     "blank": "blocks of zeros",
     "finding": "blocks found in a pack",
     "runs": "runs of blocks",
@@ -19,15 +23,17 @@ ALONE = {
     "slices": "where the lent bytes stand",
     "stack": "the stack that a call takes",
     "header": "the header's constants and sentences",
-    "threads": "eight threads", "wrong": "wrong libraries",
+    "threads": "eight threads",
 }
 
 
 # Fields of a case, as cases.c has them, and the numbers that are looked at
 # beside the call's own: u of an opened block, and the place that failed.
 KEY, DATA, NUMBER, AFTER, USED, LIST, LIST_AFTER, FAILED = 1, 4, *range(7, 13)
-COUNTED = {("open", "0"): (USED,), ("open_run", "8"): (FAILED,),
-           ("open_run", "12"): (FAILED,)}
+COUNTED = {("open", "0"): (USED,), ("forward_open", "0"): (USED,),
+           ("open_run", "8"): (FAILED,), ("open_run", "12"): (FAILED,)}
+
+SHORT = 500  # characters, for a case with boards of at most 66 bytes
 
 
 def make_cases():
@@ -40,10 +46,13 @@ def make_cases():
     return made
 
 
+def joined(lines):
+    return "".join(f"{line}\n" for line in lines).encode("ascii")
+
+
 def answer(client, lines):
     """What the client says of the cases, and its status."""
-    data = "".join(f"{line}\n" for line in lines).encode("ascii")
-    result = ended([client, "cases"], data)
+    result = ended([client, "cases"], joined(lines))
     return result.stdout.decode("utf-8", "replace").strip(), result.status
 
 
@@ -100,7 +109,7 @@ def reports_spoilt(client, made):
     under a key of each length: the client has to report each line that is
     spoilt."""
     chosen = {}
-    for line in made.result():
+    for line in itertools.chain(*(lines.result() for lines in made)):
         fields = line.split(" ")
         length = len(fields[KEY]) if fields[NUMBER] == "0" else None
         chosen.setdefault((fields[0], fields[NUMBER], length), line)
@@ -113,12 +122,25 @@ def reports_spoilt(client, made):
     return f"{len(chosen)} calls, {len(lines)} lines"
 
 
+def reports_wrong(client, made):
+    """The client has to report wrong libraries too, by these cases among
+    others. It reads them many times, and so from a file."""
+    short = [line for line in made.result() if len(line) <= SHORT]
+    with tempfile.TemporaryFile() as file:
+        file.write(joined(short))
+        file.flush()
+        return done([client, "wrong"], stdin=file)
+
+
 def runs(client, made):
     """The names and the functions of all runs, on the cases made."""
     for group in cases.GROUPS:
         yield group.__name__.replace("_", " "), functools.partial(
             agrees, client, made[group])
     yield "cases with something else expected", functools.partial(
-        reports_spoilt, client, made[cases.refusals])
+        reports_spoilt, client,
+        [made[cases.refusals], made[cases.refusals_of_runs]])
     for group, name in ALONE.items():
         yield name, functools.partial(done, [client, group])
+    yield "wrong libraries", functools.partial(
+        reports_wrong, client, made[cases.data_lengths])

@@ -13,6 +13,7 @@ static const struct {
     {"BOARDS_LONG_KEY_SIZE", BOARDS_LONG_KEY_SIZE, 32},
     {"BOARDS_TWEAK_SIZE", BOARDS_TWEAK_SIZE, 16},
     {"BOARDS_DATA_MIN", BOARDS_DATA_MIN, 16},
+    {"BOARDS_FORWARD_DATA_MIN", BOARDS_FORWARD_DATA_MIN, 33},
     {"BOARDS_DATA_MAX", BOARDS_DATA_MAX, 4096},
     {"BOARDS_BLOCK_SIZE", BOARDS_BLOCK_SIZE, 512},
     {"BOARDS_PAYLOAD_MAX", BOARDS_PAYLOAD_MAX, 496},
@@ -32,6 +33,7 @@ static const struct {
     {"BOARDS_WRONG_PACK_SIZE", BOARDS_WRONG_PACK_SIZE, 10},
     {"BOARDS_WRONG_LIST_SIZE", BOARDS_WRONG_LIST_SIZE, 11},
     {"BOARDS_BLANK", BOARDS_BLANK, 12},
+    {"BOARDS_FORWARD_DATA_TOO_SHORT", BOARDS_FORWARD_DATA_TOO_SHORT, 13},
 };
 
 static void check_constants(void) {
@@ -43,7 +45,7 @@ static void check_constants(void) {
 }
 
 static void check_reasons(void) {
-    for (uint32_t a = 0; a <= 12; a++) {
+    for (uint32_t a = 0; a <= 13; a++) {
         TRYING("boards_reason(%" PRIu32 ")", a);
         const char *reason = boards_reason(a);
         if (reason == NULL || reason[0] == 0 || reason[strlen(reason) - 1] == '.')
@@ -51,9 +53,13 @@ static void check_reasons(void) {
         for (uint32_t b = 0; b < a; b++) {
             if (strcmp(reason, boards_reason(b)) == 0) DIFFERS("the same as of %" PRIu32, b);
         }
+        if (strcmp(reason, boards_reason(UINT32_MAX)) == 0) DIFFERS("the same as of no number");
     }
+    TRYING("the least lengths in boards_reason");
+    if (strstr(boards_reason(BOARDS_DATA_TOO_SHORT), "16") == NULL) DIFFERS("no 16 where HCH's board is too short");
+    if (strstr(boards_reason(BOARDS_FORWARD_DATA_TOO_SHORT), "33") == NULL) DIFFERS("no 33 where a forward board is");
     for (uint32_t bit = 0; bit < 32; bit++) {
-        uint32_t others[] = {13 + bit, (uint32_t)1 << bit, 0xffffffff >> bit};
+        uint32_t others[] = {14 + bit, (uint32_t)1 << bit, 0xffffffff >> bit};
         for (size_t i = 0; i < COUNT(others); i++) {
             TRYING("boards_reason(%" PRIu32 ")", others[i]);
             if (boards_reason(others[i]) == NULL) DIFFERS("it is NULL");

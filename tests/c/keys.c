@@ -47,8 +47,8 @@ static void hold_bits(const call *open) {
     }
 }
 
-/* The key's first 16 bytes with zeros before them, with zeros behind them, and twice; and of the two good keys, of which
-   one begins with the other, the other one. */
+/* The key's first 16 bytes with zeros before them, with zeros behind them, and twice; and of the two good keys, of
+   which one begins with the other, the other one. */
 static void hold_alike(const call *open) {
     uint8_t before[32] = {0}, behind[32] = {0}, twice[32];
     const slice half = {open->key.bytes, 16}, others[] = {{before, 32}, {behind, 32}, {twice, 32}};
@@ -70,15 +70,15 @@ static void hold_key(slice key) {
     hold_lengths(good);
 }
 
-static void hold_other_keys(slice key) {
+static void hold_other_keys(scheme s, slice key) {
     call good[FUNCTIONS];
     make_good(good, key);
-    hold_alike(&good[OPEN]);
-    hold_bits(&good[OPEN]);
+    hold_alike(&good[by(s, OPEN)]);
+    hold_bits(&good[by(s, OPEN)]);
 }
 
 void keys(void) {
     under_each_key(hold_key);
-    under_each_key(hold_other_keys);
+    by_each_scheme(hold_other_keys);
     printf("%lu calls\n", calls);
 }

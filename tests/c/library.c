@@ -2,5 +2,11 @@
 #include <boards.h>
 
 library boards = {
-    boards_encipher, boards_decipher, boards_seal, boards_open, boards_find, boards_seal_run, boards_open_run,
+    {
+        [HCH] = {boards_encipher, boards_decipher, boards_seal, boards_open},
+        [FORWARD] = {boards_forward_encipher, boards_forward_decipher, boards_forward_seal, boards_forward_open},
+    },
+    boards_find,
+    boards_seal_run,
+    boards_open_run,
 };

@@ -1,14 +1,14 @@
-/* Opening: a good block, and each way in which a block can fail its check. A block that sealing did not write is made
-   by enciphering some plain block here, since the cases hold enciphering to the reference. */
+/* Opening, by each scheme: a good block, and each way in which a block can fail its check. A block that sealing did not
+   write is made by enciphering some plain block here, since the cases hold enciphering to the reference. */
 #include "call.h"
 #include "groups.h"
-#include "library.h"
 #include "report.h"
 #include <string.h>
 
 enum { SIZE = 512, MOST = 496, USED = 100, PLACE = 3 };
 
 static const uint64_t pack = 0x0123456789abcdef;
+static scheme chosen;
 static slice key;
 static uint8_t payload[MOST], plain[SIZE], sealed[SIZE];
 
@@ -29,12 +29,13 @@ static void encipher_for(uint8_t block[SIZE], uint32_t place) {
     uint8_t tweak[16] = {0};
     put_number(tweak, 8, pack);
     put_number(tweak + 12, 4, place);
-    if (boards.encipher(key.bytes, key.length, tweak, 16, block, SIZE) != 0) DIFFERS("512 bytes are not enciphered");
+    call c = {.name = by(chosen, ENCIPHER), .key = key, .tweak = {tweak, 16}, .data = {block, SIZE}};
+    if (answer(&c) != 0) DIFFERS("512 bytes are not enciphered");
 }
 
 /* The block opened as that of the pack and PLACE, which it is not. */
 static call opening_of(const uint8_t block[SIZE]) {
-    call c = {.name = OPEN, .key = key, .data = {block, SIZE}, .pack = pack, .place = PLACE};
+    call c = {.name = by(chosen, OPEN), .key = key, .data = {block, SIZE}, .pack = pack, .place = PLACE};
     c.number = 8;
     c.after = block;
     return c;
@@ -48,7 +49,7 @@ static void hold_good(size_t used) {
     encipher_for(sealed, PLACE);
     fill(before, SIZE, (uint32_t)used);
     call open = opening_of(sealed), seal = open;
-    seal.name = SEAL;
+    seal.name = by(chosen, SEAL);
     seal.payload = (slice){payload, used};
     seal.data.bytes = before;
     seal.number = 0;
@@ -141,7 +142,8 @@ static void hold_places(void) {
     }
 }
 
-static void hold_opening(slice k) {
+static void hold_opening(scheme s, slice k) {
+    chosen = s;
     key = k;
     hold_good(USED);
     hold_damaged();
@@ -155,6 +157,6 @@ static void hold_opening(slice k) {
 void opening(void) {
     fill(payload, MOST, 2);
     for (size_t i = 0; i < MOST; i++) payload[i] |= 1;
-    under_each_key(hold_opening);
+    by_each_scheme(hold_opening);
     printf("%lu calls\n", calls);
 }

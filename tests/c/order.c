@@ -7,10 +7,11 @@
 
 enum { MOST = 8192 };
 
-static uint8_t some[2][MOST], sealed[KEYS][MOST];
+/* Any bytes; and blocks that each scheme seals for the place 3, under a key of each length. */
+static uint8_t some[2][MOST], sealed[SCHEMES][KEYS][MOST];
 
-/* Bytes for a run that is too long, of which the first two blocks are sealed for the places 3 and 4; and lists, of
-   which the second has a number over 496. Blocks are sealed under a key of each length. */
+/* Bytes for a run that is too long, of which the first two blocks are sealed for the places 3 and 4, again under a key
+   of each length; and lists, of which the second has a number over 496. */
 static uint8_t run[KEYS][129 * SIZE];
 static uint16_t lists[2][129];
 
@@ -45,6 +46,7 @@ static void spoil(call *c, uint32_t number) {
     case 10: c->data.length++; break;
     case 11: c->list.length = 2; break;
     case 12: c->data.bytes = zeros; break;
+    case 13: c->data.length = 32; break;
     }
 }
 
@@ -74,8 +76,8 @@ static void hold_pairs(slice key) {
     }
 }
 
-static void refuse_hch(function name) {
-    static const size_t lengths[] = {0, 1, 15, 16, 17, 4096, 4097, 4112};
+static void refuse_data(function name) {
+    static const size_t lengths[] = {0, 1, 15, 16, 17, 31, 32, 33, 34, 4096, 4097, 4112};
     call c = {.name = name, .key = key_of(0), .tweak = {some[0], 0}, .data = {some[1], 0}};
     for (size_t i = 0; i < COUNT(lengths) * COUNT(keys_tried); i++) {
         c.data.length = lengths[i / COUNT(keys_tried)];
@@ -95,8 +97,8 @@ static size_t take(size_t *i, size_t count) {
     return taken;
 }
 
-static void refuse_seal(void) {
-    call c = {.name = SEAL, .key = key_of(0), .payload = {some[0], 0}, .data = {some[1], 0}, .pack = 1};
+static void refuse_seal(scheme s) {
+    call c = {.name = by(s, SEAL), .key = key_of(0), .payload = {some[0], 0}, .data = {some[1], 0}, .pack = 1};
     for (size_t i = 0; i < COUNT(keys_tried) * COUNT(blocks) * COUNT(payloads) * COUNT(places); i++) {
         size_t rest = i;
         c.key.length = keys_tried[take(&rest, COUNT(keys_tried))];
@@ -109,14 +111,14 @@ static void refuse_seal(void) {
 
 /* The block is that of place 3, cut short or with bytes behind it where its length is another, or one of any bytes, or
    of zeros. */
-static void refuse_open(void) {
-    call c = {.name = OPEN, .key = key_of(0), .pack = 1};
+static void refuse_open(scheme s) {
+    call c = {.name = by(s, OPEN), .key = key_of(0), .pack = 1};
     for (size_t i = 0; i < COUNT(keys_tried) * COUNT(blocks) * COUNT(places) * 3; i++) {
         size_t rest = i;
         c.key.length = keys_tried[take(&rest, COUNT(keys_tried))];
         c.data.length = blocks[take(&rest, COUNT(blocks))];
         c.place = places[take(&rest, COUNT(places))];
-        const uint8_t *const kinds[] = {sealed[sealed_for(c.key.length)], some[1], zeros};
+        const uint8_t *const kinds[] = {sealed[s][sealed_for(c.key.length)], some[1], zeros};
         c.data.bytes = kinds[rest];
         hold_refused(&c, rest != 0 || c.place != 3);
     }
@@ -155,18 +157,20 @@ static void refuse_run(function name) {
     }
 }
 
-static void seal_for(slice key, uint32_t place, uint8_t *block) {
-    uint32_t number = boards.seal(key.bytes, key.length, some[0], 100, 1, place, block, SIZE);
+static void seal_for(scheme s, slice key, uint32_t place, uint8_t *block) {
+    uint32_t number = boards.by[s].seal(key.bytes, key.length, some[0], 100, 1, place, block, SIZE);
     if (number != 0) DIFFERS("a good payload is not sealed: %" PRIu32, number);
 }
 
 static void make_sealed(slice key) {
     int i = sealed_for(key.length);
-    fill(sealed[i], MOST, 3);
+    for (scheme s = HCH; s < SCHEMES; s++) {
+        fill(sealed[s][i], MOST, 3);
+        seal_for(s, key, 3, sealed[s][i]);
+    }
     fill(run[i], sizeof run[i], 4);
-    seal_for(key, 3, sealed[i]);
-    seal_for(key, 3, run[i]);
-    seal_for(key, 4, run[i] + SIZE);
+    seal_for(HCH, key, 3, run[i]);
+    seal_for(HCH, key, 4, run[i] + SIZE);
 }
 
 void order(void) {
@@ -176,10 +180,12 @@ void order(void) {
     for (uint32_t i = 0; i < 2; i++) fill(some[i], MOST, i);
     under_each_key(make_sealed);
     refuse_find();
-    refuse_open();
-    refuse_seal();
-    refuse_hch(ENCIPHER);
-    refuse_hch(DECIPHER);
+    for (scheme s = HCH; s < SCHEMES; s++) {
+        refuse_open(s);
+        refuse_seal(s);
+        refuse_data(by(s, ENCIPHER));
+        refuse_data(by(s, DECIPHER));
+    }
     refuse_run(SEAL_RUN);
     refuse_run(OPEN_RUN);
     printf("%lu calls\n", calls);

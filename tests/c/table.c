@@ -4,13 +4,17 @@ const size_t key_lengths[KEYS] = {16, 32};
 
 int is_key(size_t length) { return length == key_lengths[0] || length == key_lengths[1]; }
 
+const size_t least_data[SCHEMES] = {[HCH] = 16, [FORWARD] = 33};
+
 const uint32_t looks[FUNCTIONS][LOOKS] = {
-    {1, 2, 3, 4}, {1, 2, 3, 4}, {1, 7, 5, 6}, {1, 7, 6, 8, 12}, {10, 6}, {1, 10, 11, 5, 6}, {1, 10, 11, 6, 8, 12},
+    {1, 2, 3, 4},  {1, 2, 3, 4},      {1, 7, 5, 6},          {1, 7, 6, 8, 12},
+    {1, 2, 13, 4}, {1, 2, 13, 4},     {1, 7, 5, 6},          {1, 7, 6, 8, 12},
+    {10, 6},       {1, 10, 11, 5, 6}, {1, 10, 11, 6, 8, 12},
 };
 
 int can_meet(uint32_t a, uint32_t b) {
     if (a > b) return can_meet(b, a);
-    return a != 0 && !(a == 3 && b == 4) && !(a == 8 && b == 12);
+    return a != 0 && !(a == 3 && b == 4) && !(a == 4 && b == 13) && !(a == 8 && b == 12);
 }
 
 int says_failed(uint32_t number) { return number == 8 || number == 12; }
@@ -57,6 +61,7 @@ int applies(uint32_t number, const call *c, int failing) {
     case 10: return c->data.length < 512 || c->data.length > 128 * 512 || c->data.length % 512 != 0;
     case 11: return c->list.length / 2 + c->more != c->data.length / 512;
     case 12: return failing && is_blank(c);
+    case 13: return c->data.length < 33;
     default: return 0;
     }
 }

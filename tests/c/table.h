@@ -11,9 +11,13 @@ extern const size_t key_lengths[KEYS];
 
 int is_key(size_t length);
 
+/* The fewest bytes of data that a scheme takes, and the most. */
+enum { MOST_DATA = 4096 };
+extern const size_t least_data[SCHEMES];
+
 /* "HCH looks at 1, 2, 3, 4 in this order. Sealing looks at 1, 7, 5, 6. Opening looks at 1, 7, 6, 8." In 02, finding
-   looks at 10 first, and at 6 next; of runs, "Sealing looks at 1, 10, 11, 5, 6; opening at 1, 10, 11, 6, 8"; and 12 is
-   "in the place of 8", here behind it. A 0 stands where a function has no more. */
+   looks at 10 first, and at 6 next; of runs, "Sealing looks at 1, 10, 11, 5, 6; opening at 1, 10, 11, 6, 8"; 12 is
+   "in the place of 8", here behind it; and 13 "stands where 3 stood". A 0 stands where a function has no more. */
 extern const uint32_t looks[FUNCTIONS][LOOKS];
 
 /* Whether both are numbers that can hold at once: data is never both too short and too long, and no block that fails

@@ -11,14 +11,23 @@
 #include <pthread.h>
 #include <string.h>
 
-enum { THREADS = 8, ROUNDS = 100, BOARD = 4096, SIZE = 512, RUN = 3 * SIZE, SIGNALS = 65536, CALLS = 11 };
+enum { THREADS = 8, ROUNDS = 100, BOARD = 4096, SIZE = 512, RUN = 3 * SIZE, SIGNALS = 65536 };
 
-/* What the calls of a round answer. */
-static const uint32_t numbers[CALLS] = {0, 0, 0, 0, 8, 1, 0, 0, 0, 8, 0};
+/* The calls of a round: these by each scheme, and three with a run. */
+enum { BY_A_SCHEME = 8, WITH_A_RUN = 3, CALLS = SCHEMES * BY_A_SCHEME + WITH_A_RUN };
+
+/* What they answer. */
+static const uint32_t numbers[BY_A_SCHEME] = {0, 0, 0, 0, 8, 1, 0, 0}, run_numbers[WITH_A_RUN] = {0, 8, 0};
 
 typedef struct {
-    uint32_t numbers[CALLS];
-    uint8_t enciphered[BOARD], deciphered[BOARD], sealed[SIZE], opened[SIZE], part[SIZE], run[RUN];
+    uint32_t numbers[BY_A_SCHEME];
+    uint8_t enciphered[BOARD], deciphered[BOARD], sealed[SIZE], opened[SIZE], part[SIZE];
+} scheme_result;
+
+typedef struct {
+    scheme_result by[SCHEMES];
+    uint32_t run_numbers[WITH_A_RUN];
+    uint8_t run[RUN];
     uint16_t lengths[3];
     uint32_t failed;
 } result;
@@ -29,44 +38,56 @@ typedef struct {
     uint32_t seed;
     pthread_barrier_t *start; /* NULL for the thread that works alone */
     uint8_t *signals;         /* a stack for them */
+    uint32_t round_seed, place; /* of the round, as is the rest but for the results */
+    uint64_t pack;
+    size_t k;                   /* the key's length */
     uint8_t key[32], tweak[16], payload[SIZE];
     result results[ROUNDS];
 } work;
 
 /* A run that is sealed, opened as that of another pack, which it is not, and opened. */
-static void do_run(const work *w, size_t k, result *r, uint64_t pack, uint32_t place) {
+static void do_run(const work *w, result *r) {
     fill(r->run, RUN, w->seed);
-    for (uint32_t i = 0; i < 3; i++) r->lengths[i] = (uint16_t)((place + 53 * i) % 497);
-    r->numbers[8] = boards.seal_run(w->key, k, pack, place, r->lengths, 3, r->run, RUN);
-    r->numbers[9] = boards.open_run(w->key, k, pack + 1, place, r->lengths, 3, r->run, RUN, &r->failed);
+    for (uint32_t i = 0; i < 3; i++) r->lengths[i] = (uint16_t)((w->place + 53 * i) % 497);
+    r->run_numbers[0] = boards.seal_run(w->key, w->k, w->pack, w->place, r->lengths, 3, r->run, RUN);
+    r->run_numbers[1] = boards.open_run(w->key, w->k, w->pack + 1, w->place, r->lengths, 3, r->run, RUN, &r->failed);
     memset(r->lengths, 0, sizeof r->lengths);
-    r->numbers[10] = boards.open_run(w->key, k, pack, place, r->lengths, 3, r->run, RUN, &r->failed);
+    r->run_numbers[2] = boards.open_run(w->key, w->k, w->pack, w->place, r->lengths, 3, r->run, RUN, &r->failed);
 }
 
-/* Two boards, two blocks, two refusals, a block found in the pack and sealed there, and a run; the key has the
-   other length in the next round and in the next thread. */
+/* By one scheme, two boards, two blocks, two refusals, and a block found in the pack and sealed there. */
+static void do_scheme(scheme s, const work *w, scheme_result *r) {
+    const scheme_functions *its = &boards.by[s];
+    size_t least = least_data[s], length = least + w->round_seed * 977 % (BOARD + 1 - least);
+    size_t used = w->round_seed * 53 % 497;
+    fill(r->enciphered, BOARD, w->round_seed + 3);
+    fill(r->deciphered, BOARD, w->round_seed + 4);
+    r->numbers[0] = its->encipher(w->key, w->k, w->tweak, 16, r->enciphered, length);
+    r->numbers[1] = its->decipher(w->key, w->k, w->tweak, 16, r->deciphered, length);
+    r->numbers[2] = its->seal(w->key, w->k, w->payload, used, w->pack, w->place, r->sealed, SIZE);
+    memcpy(r->opened, r->sealed, SIZE);
+    r->numbers[3] = its->open(w->key, w->k, w->pack, w->place, r->opened, SIZE);
+    r->numbers[4] = its->open(w->key, w->k, w->pack + 1, w->place, r->sealed, SIZE);
+    r->numbers[5] = its->encipher(w->key, w->k - 1, w->tweak, 16, r->enciphered, length);
+    r->numbers[6] = boards.find(shared, sizeof shared, w->seed);
+    uint8_t *part = boards_part(shared, w->seed);
+    r->numbers[7] = its->seal(w->key, w->k, w->payload, used, w->pack, w->seed, part, SIZE);
+    memcpy(r->part, part, SIZE);
+}
+
+/* The key has the other length in the next round and in the next thread. */
 static void do_round(work *w, uint32_t round) {
     result *r = &w->results[round];
-    uint32_t seed = w->seed * ROUNDS + round, place = seed * 7 % 65534;
-    size_t k = key_lengths[(w->seed + round) % KEYS], length = 16 + seed * 977 % (BOARD - 15), used = seed * 53 % 497;
-    uint64_t pack = (uint64_t)seed << 40 | seed;
+    uint32_t seed = w->seed * ROUNDS + round;
+    w->round_seed = seed;
+    w->place = seed * 7 % 65534;
+    w->pack = (uint64_t)seed << 40 | seed;
+    w->k = key_lengths[(w->seed + round) % KEYS];
     fill(w->key, sizeof w->key, seed);
     fill(w->tweak, sizeof w->tweak, seed + 1);
     fill(w->payload, sizeof w->payload, seed + 2);
-    fill(r->enciphered, BOARD, seed + 3);
-    fill(r->deciphered, BOARD, seed + 4);
-    r->numbers[0] = boards.encipher(w->key, k, w->tweak, 16, r->enciphered, length);
-    r->numbers[1] = boards.decipher(w->key, k, w->tweak, 16, r->deciphered, length);
-    r->numbers[2] = boards.seal(w->key, k, w->payload, used, pack, place, r->sealed, SIZE);
-    memcpy(r->opened, r->sealed, SIZE);
-    r->numbers[3] = boards.open(w->key, k, pack, place, r->opened, SIZE);
-    r->numbers[4] = boards.open(w->key, k, pack + 1, place, r->sealed, SIZE);
-    r->numbers[5] = boards.encipher(w->key, k - 1, w->tweak, 16, r->enciphered, length);
-    r->numbers[6] = boards.find(shared, sizeof shared, w->seed);
-    uint8_t *part = boards_part(shared, w->seed);
-    r->numbers[7] = boards.seal(w->key, k, w->payload, used, pack, w->seed, part, SIZE);
-    memcpy(r->part, part, SIZE);
-    do_run(w, k, r, pack, place);
+    for (scheme s = HCH; s < SCHEMES; s++) do_scheme(s, w, &r->by[s]);
+    do_run(w, r);
 }
 
 static void *do_work(void *given) {
@@ -89,11 +110,18 @@ static work *new_work(uint32_t seed, pthread_barrier_t *start) {
     return w;
 }
 
+static int answers_right(const result *r) {
+    for (int s = 0; s < SCHEMES; s++) {
+        if (memcmp(r->by[s].numbers, numbers, sizeof numbers) != 0) return 0;
+    }
+    return memcmp(r->run_numbers, run_numbers, sizeof run_numbers) == 0;
+}
+
 static void compare(const work *alone, const work *together) {
     for (int round = 0; round < ROUNDS; round++) {
         const result *one = &alone->results[round], *other = &together->results[round];
-        if (memcmp(one->numbers, numbers, sizeof numbers) != 0) DIFFERS("round %d, alone: other answers", round);
-        if (memcmp(other->numbers, numbers, sizeof numbers) != 0) DIFFERS("round %d, together: other answers", round);
+        if (!answers_right(one)) DIFFERS("round %d, alone: other answers", round);
+        if (!answers_right(other)) DIFFERS("round %d, together: other answers", round);
         if (memcmp(one, other, sizeof *one) != 0) DIFFERS("round %d, together: other bytes", round);
     }
 }

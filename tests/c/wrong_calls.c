@@ -7,52 +7,6 @@
 #include <inttypes.h>
 #include <string.h>
 
-/* What the wrong functions do with the call that is made to them. */
-static uint32_t (*wrongly)(call *c);
-
-static uint32_t encipher(const uint8_t *key, size_t k, const uint8_t *tweak, size_t t, uint8_t *data, size_t n) {
-    return wrongly(&(call){.name = ENCIPHER, .key = {key, k}, .tweak = {tweak, t}, .data = {data, n}});
-}
-
-static uint32_t decipher(const uint8_t *key, size_t k, const uint8_t *tweak, size_t t, uint8_t *data, size_t n) {
-    return wrongly(&(call){.name = DECIPHER, .key = {key, k}, .tweak = {tweak, t}, .data = {data, n}});
-}
-
-static uint32_t seal(const uint8_t *key, size_t k, const uint8_t *payload, size_t u, uint64_t pack, uint32_t place,
-                     uint8_t *block, size_t n) {
-    call c = {.name = SEAL, .key = {key, k}, .payload = {payload, u}, .data = {block, n}, .pack = pack, .place = place};
-    return wrongly(&c);
-}
-
-static uint32_t open(const uint8_t *key, size_t k, uint64_t pack, uint32_t place, uint8_t *block, size_t n) {
-    return wrongly(&(call){.name = OPEN, .key = {key, k}, .data = {block, n}, .pack = pack, .place = place});
-}
-
-static uint32_t find(const uint8_t *pack, size_t n, uint32_t place) {
-    return wrongly(&(call){.name = FIND, .data = {pack, n}, .place = place});
-}
-
-static uint32_t seal_run(const uint8_t *key, size_t k, uint64_t pack, uint32_t place, const uint16_t *lengths,
-                         size_t count, uint8_t *run, size_t n) {
-    call c = {.name = SEAL_RUN, .key = {key, k}, .data = {run, n}, .pack = pack, .place = place};
-    c.list = (slice){(const uint8_t *)lengths, 2 * count};
-    return wrongly(&c);
-}
-
-static uint32_t open_run(const uint8_t *key, size_t k, uint64_t pack, uint32_t place, uint16_t *lengths, size_t count,
-                         uint8_t *run, size_t n, uint32_t *failed) {
-    call c = {.name = OPEN_RUN, .key = {key, k}, .data = {run, n}, .pack = pack, .place = place, .failed = failed};
-    c.list = (slice){(const uint8_t *)lengths, 2 * count};
-    return wrongly(&c);
-}
-
-/* The libraries of which one function is wrong, and the one of which all are that have a key. */
-static const library wrong_in[FUNCTIONS] = {
-    {.encipher = encipher}, {.decipher = decipher}, {.seal = seal},         {.open = open},
-    {.find = find},         {.seal_run = seal_run}, {.open_run = open_run},
-};
-static const library wrong_in_all = {encipher, decipher, seal, open, NULL, seal_run, open_run};
-
 /* Keys. */
 
 typedef struct {
@@ -180,9 +134,9 @@ static const blank_mistake blank_mistakes[] = {
     {"looks at the first byte alone", 1, 512, 0xff, '|', 1, 12, 8, 0, "bit 7 of the bytes 7 and 511:"},
     {"looks at the last byte alone", 0, 511, 0xff, '|', 1, 12, 8, 0, "bit 7 of the bytes 0 and 504:"},
     {"does not look at the first byte", 0, 1, 0xff, '|', 1, 12, 8, 0, "but for bit 0 of byte 0:"},
-    {"does not look at the last byte", 511, 512, 0xff, '|', 1, 12, 8, 0, "but for bit 0 of byte 511:"},
-    {"looks at the first 256 bytes alone", 256, 512, 0xff, '|', 1, 12, 8, 0, "but for bit 0 of byte 256:"},
-    {"looks at a payload's bytes alone", 496, 512, 0xff, '|', 1, 12, 8, 0, "but for bit 0 of byte 496:"},
+    {"does not look at the last byte", 511, 512, 0xff, '|', 1, 12, 8, 0, " of byte 511:"},
+    {"looks at the first 256 bytes alone", 256, 512, 0xff, '|', 1, 12, 8, 0, "zeros but for bit "},
+    {"looks at a payload's bytes alone", 496, 512, 0xff, '|', 1, 12, 8, 0, "zeros but for bit "},
     {"does not look at a payload's bytes", 0, 496, 0xff, '|', 1, 12, 8, 0, "but for bit 0 of byte 0:"},
     {"does not look at a byte's highest bit", 0, 512, 0x80, '|', 1, 12, 8, 0, "bit 7 alone in all bytes"},
     {"does not look at a byte's lowest bit", 0, 512, 0x01, '|', 1, 12, 8, 0, "bit 0 alone in all bytes"},
@@ -201,6 +155,12 @@ static const blank_mistake *telling;
 static uint8_t *told_block(const call *c, uint32_t number) {
     size_t at = c->name == OPEN_RUN && says_failed(number) ? 512 * (size_t)(*c->failed - c->place) : 0;
     return (uint8_t *)c->data.bytes + at;
+}
+
+/* A block deciphered by the scheme of the call. */
+static uint32_t deciphered(const call *c, const uint8_t tweak[16], const uint8_t block[512]) {
+    call d = {.name = by(scheme_of(c->name), DECIPHER), .key = c->key, .tweak = {tweak, 16}, .data = {block, 512}};
+    return answer_of(&right, &d);
 }
 
 static uint32_t by_some_bits(call *c) {
@@ -236,7 +196,7 @@ static uint32_t blank_when_deciphered(call *c) {
     if (number != 8) return number;
     memcpy(plain, told_block(c, number), sizeof plain);
     tweak[15] = (uint8_t)(c->name == OPEN_RUN ? *c->failed : c->place);
-    right.decipher(c->key.bytes, c->key.length, tweak, sizeof tweak, plain, sizeof plain);
+    deciphered(c, tweak, plain);
     return all_zero(plain, sizeof plain) ? 12 : 8;
 }
 
@@ -244,13 +204,15 @@ static uint32_t decipher_blank(call *c) {
     uint8_t tweak[16] = {0};
     uint32_t number = answer_of(&right, c);
     if (number != 12) return number;
-    return number + right.decipher(c->key.bytes, c->key.length, tweak, sizeof tweak, told_block(c, number), 512);
+    return number + deciphered(c, tweak, told_block(c, number));
 }
 
 static uint32_t seal_blank(call *c) {
     uint32_t number = answer_of(&right, c);
     if (number != 12) return number;
-    return number + right.seal(c->key.bytes, c->key.length, NULL, 0, c->pack, c->place, told_block(c, number), 512);
+    call seal = {.name = by(scheme_of(c->name), SEAL), .key = c->key, .pack = c->pack, .place = c->place};
+    seal.data = (slice){told_block(c, number), 512};
+    return number + answer_of(&right, &seal);
 }
 
 static uint32_t clear_failed(call *c) {
@@ -283,7 +245,7 @@ static void expect_of(function f, const char *name, const char *words) {
 }
 
 static void expect_of_openers(const char *name, const char *words) {
-    expect_of(OPEN, name, words);
+    for (scheme s = HCH; s < SCHEMES; s++) expect_of(by(s, OPEN), name, words);
     expect_of(OPEN_RUN, name, words);
 }
 
@@ -298,5 +260,7 @@ void wrong_blanks(void) {
         expect_of_openers(failed_mistakes[i].name, failed_mistakes[i].words);
     }
     wrongly = blank_data;
-    for (function f = ENCIPHER; f <= SEAL; f++) expect_of(f, "has 12 for zeros", "answers 12 in the place of 0");
+    for (function f = ENCIPHER; f < FIND; f++) {
+        if (kind_of(f) != OPEN) expect_of(f, "has 12 for zeros", "answers 12 in the place of 0");
+    }
 }

@@ -1,5 +1,6 @@
-/* HCH in plain C, to measure against: the product in 128 steps with masks and no table, no intrinsics. */
-#include "hch.h"
+/* HCH and the encryption-only scheme in plain C, to measure against: the product in 128 steps with masks and no table,
+   no intrinsics. */
+#include "plain.h"
 #include "aes.h"
 #include "element.h"
 
@@ -34,7 +35,7 @@ static element decipher(const aes_key *k, element a) {
     return load(block);
 }
 
-#include "scheme.h"
+#include "schemes.h"
 
 void plain_product(const uint8_t a[16], uint8_t block[16]) {
     factor r;
@@ -48,4 +49,14 @@ void plain_hch_encipher(const uint8_t *key, size_t key_length, const uint8_t twe
 
 void plain_hch_decipher(const uint8_t *key, size_t key_length, const uint8_t tweak[16], uint8_t *data, size_t length) {
     hch(1, key, key_length, tweak, data, length);
+}
+
+void plain_forward_encipher(const uint8_t *key, size_t key_length, const uint8_t tweak[16], uint8_t *data,
+                            size_t length) {
+    forward(0, key, key_length, tweak, data, length);
+}
+
+void plain_forward_decipher(const uint8_t *key, size_t key_length, const uint8_t tweak[16], uint8_t *data,
+                            size_t length) {
+    forward(1, key, key_length, tweak, data, length);
 }
