@@ -14,13 +14,13 @@
 /* The calls of one library. Those of the earlier one have before_ in front of their names, and have to take the same
    arguments. Forward is the encryption-only scheme: where the earlier library lacks it, its calls are NULL. */
 typedef struct {
-    __typeof__(boards_encipher) *encipher, *forward_encipher;
+    __typeof__(boards_encipher) *encipher, *decipher, *forward_encipher;
     __typeof__(boards_seal) *seal;
     __typeof__(boards_open) *open, *forward_open;
     __typeof__(boards_open_run) *open_run;
 } library;
 
-__typeof__(boards_encipher) before_boards_encipher;
+__typeof__(boards_encipher) before_boards_encipher, before_boards_decipher;
 __typeof__(boards_seal) before_boards_seal;
 __typeof__(boards_open) before_boards_open;
 __typeof__(boards_open_run) before_boards_open_run;
@@ -28,12 +28,12 @@ __attribute__((weak)) __typeof__(boards_encipher) before_boards_forward_encipher
 __attribute__((weak)) __typeof__(boards_open) before_boards_forward_open;
 
 static const library libraries[2] = {
-    {boards_encipher, boards_forward_encipher, boards_seal, boards_open, boards_forward_open, boards_open_run},
-    {before_boards_encipher, before_boards_forward_encipher, before_boards_seal, before_boards_open,
-     before_boards_forward_open, before_boards_open_run},
+    {boards_encipher, boards_decipher, boards_forward_encipher, boards_seal, boards_open, boards_forward_open, boards_open_run},
+    {before_boards_encipher, before_boards_decipher, before_boards_forward_encipher, before_boards_seal,
+     before_boards_open, before_boards_forward_open, before_boards_open_run},
 };
 
-enum { ROWS = 12, FORWARD_ROWS = 3, SIDES = 2, BLOCKS = 40, RUN = BLOCKS * 512, MOST = 3 * RUN, PACK = 1, PLACE = 258 };
+enum { ROWS = 14, FORWARD_ROWS = 3, SIDES = 2, BLOCKS = 40, RUN = BLOCKS * 512, MOST = 3 * RUN, PACK = 1, PLACE = 258 };
 
 /* What is measured: one call of a library on the row's bytes, and its answer. */
 typedef struct row row;
@@ -54,6 +54,7 @@ static const uint8_t tweak[16] = {1}, zeros[512];
 static uint8_t board[4096], sealed[512], sealed_long[512], sealed_forward[512], damaged[512], sealed_run[RUN];
 
 static uint32_t encipher(const library *l, const row *r, uint8_t *data) { return l->encipher(key, r->key_length, tweak, 16, data, r->length); }
+static uint32_t decipher(const library *l, const row *r, uint8_t *data) { return l->decipher(key, r->key_length, tweak, 16, data, r->length); }
 static uint32_t forward_encipher(const library *l, const row *r, uint8_t *data) {
     return l->forward_encipher(key, r->key_length, tweak, 16, data, r->length);
 }
@@ -80,6 +81,8 @@ static const row rows[ROWS] = {
     {"HCH, enciphering 16 bytes", encipher, 16, board, 16, 200, false},
     {"HCH, enciphering 512 bytes", encipher, 16, board, 512, 32, false},
     {"HCH, enciphering 4,096 bytes", encipher, 16, board, 4096, 4, false},
+    {"HCH, deciphering 16 bytes", decipher, 16, board, 16, 200, false},
+    {"HCH, deciphering 512 bytes", decipher, 16, board, 512, 32, false},
     {"forward, opening a good block", forward_open, 16, sealed_forward, 512, 32, false},
     {"forward, enciphering 512 bytes", forward_encipher, 16, board, 512, 32, false},
     {"forward, enciphering 4,096 bytes", forward_encipher, 16, board, 4096, 4, false},

@@ -32,11 +32,12 @@
  * boards_forward_decipher, boards_forward_seal and boards_forward_open do the same by the encryption-only scheme, here
  * called the forward scheme, which needs AES encryption alone. Choose
  *   - HCH for boards of 16 to 32 bytes, for runs, and for all that was enciphered or sealed before version 0.14;
- *   - the forward scheme where the machine's cipher unit has no AES decryption, or where both ends should need AES in
- *     one direction only. It takes boards of 33 bytes or more, and has no runs for now: its blocks are sealed and
- *     opened one by one. boards_find and boards_part serve them too.
- * For the rest either serves; README has their times. Use a key with one scheme only: neither paper says what both are
- * worth under one key. Nothing in the bytes tells the scheme: your program has to know it, as it knows the key.
+ *   - the forward scheme for boards and blocks that are also read or written on a machine whose cipher unit has no AES
+ *     decryption. It takes boards of 33 bytes or more, and has no runs for now: its blocks are sealed and opened one by
+ *     one. boards_find and boards_part serve them too.
+ * This library does AES itself, and uses no cipher unit. For the rest either scheme serves; README, in the source, has
+ * their times. Use a key with one scheme only: neither paper says what both are worth under one key. Nothing in the
+ * bytes tells the scheme: your program has to know it, as it knows the key.
  *
  * A key is 16 bytes long, for AES-128, or 32 bytes long, for AES-256. Every call that takes a key takes both lengths.
  * Decipher and open with the key and by the scheme that you enciphered and sealed with. With another key, or by the
@@ -44,8 +45,8 @@
  * as unlikely as guessing 16 bytes. A block of zeros is blank under every key that is known, by both schemes, so 12
  * says nothing of either. A key of 32 bytes is not one of 16 with more bytes behind it: its first 16 bytes are another
  * key. To give a pack that HCH sealed a longer key, call boards_open_run with the old key and, if it answered 0,
- * boards_seal_run with the new key on the same run and list. A pack of the forward scheme gets its new key, and any
- * pack the other scheme, block by block: open and seal each. Leave blank blocks as they are.
+ * boards_seal_run with the new key on the same run and list. To give a pack of the forward scheme a new key, or to move
+ * a pack to the other scheme, with a new key too, open and seal its blocks one by one. Leave blank blocks as they are.
  *
  * Programs that were written for version 0.13 need no change: its calls answer the same numbers and leave the same
  * bytes. New are the four forward calls, and number 13, which only boards_forward_encipher and boards_forward_decipher

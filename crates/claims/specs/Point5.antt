@@ -36,7 +36,7 @@ pub record Point5 : Type 0 where
   pub deciphered-by-aes : (key tweak C : List ℕ) → deciphered key tweak C ≡ decipher (aes key .E) timesX powerSum (number tweak) C
   -- The polynomial hash is the paper's.
   pub polynomial-hash : (τ : ℕ) (Xs : List ℕ) → IsBlock τ → Below (2 ^ 128) Xs → powerSum τ Xs ≡ τ · Poly τ Xs
-  -- "Its primitive element is x in our field."
+  -- "Its primitive element is x in our field." That x is primitive is not shown, and nothing here rests on it.
   pub primitive-element : (β i : ℕ) → IsBlock β → φ timesX β i ≡ power 1 _·_ x i · β
   -- Table 2's caption: with its blocks swapped, the Feistel construction is undone.
   pub feistel-undone : (E : ℕ → ℕ) (h : ℕ → List ℕ → ℕ) (τ′ A₁ A₂ : ℕ)

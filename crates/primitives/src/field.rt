@@ -65,14 +65,15 @@ fn pairs(r: Block, s: &[u8]) -> Block
 }
 
 // The sum of the blocks of a string, the last padded, each times its own power of R: 1 for the last block, one more for each before
-// it. By Horner's rule: the pairs of whole blocks, and what stands behind them, block by block.
+// it. By Horner's rule: the pairs of whole blocks, and what stands behind them, block by block. Only parts of `s` are lent on: where `s` itself is,
+// the compiler keeps its address and length in memory, and each call waits for them.
 pub fn power_sum(r: Block, s: &[u8]) -> Block
     ensures { λ x. ⌜ value x ≡ powerSum (value r) (blocks (now (s .entry))) ⌝ }
 {
     let mut sum = pairs(r, s);
     let mut at = s.len() - s.len() % 32;
     while at < s.len() {
-        sum = product(sum.xor(Block::read(s, at)), r);
+        sum = product(sum.xor(Block::read(&s[at..], 0)), r);
         at += 16;
     }
     sum

@@ -2,15 +2,14 @@
 use Prim.Native.Nat.{ℕ}
 use mathlib.Core.List.{List}
 use Rattle.strings.specs.Cipher.{Scheme}
-use Rattle.strings.specs.Call.{looksAt}
 use Rattle.strings.specs.declared.refusal.Answer.{Answer}
 use Rattle.primitives.specs.declared.aes.ExpandedKey.{ExpandedKey}
 use Rattle.hch.specs.Hch.{hch}
 use Rattle.hch.specs.Expanded.{hchUnder}
-use Rattle.hch.specs.Call.{testsBehindKey as testsOfHch}
+use Rattle.hch.specs.Call.{answerBehindKey as answerOfHch}
 use Rattle.forward.specs.Forward.{forward}
 use Rattle.forward.specs.Expanded.{forwardUnder}
-use Rattle.forward.specs.Call.{testsBehindKey as testsOfForward}
+use Rattle.forward.specs.Call.{answerBehindKey as answerOfForward}
 use Rattle.schemes.specs.declared.SchemeName.{SchemeName}
 use Rattle.schemes.specs.declared.SchemeName.the-variants.{Hch, Forward}
 
@@ -26,5 +25,5 @@ schemeUnder Forward expanded = forwardUnder expanded
 
 -- What its calls answer under such a key.
 abbrev pub answerBehindKey : SchemeName → (tweak message : List ℕ) → Answer
-answerBehindKey Hch tweak message = looksAt (testsOfHch tweak message)
-answerBehindKey Forward tweak message = looksAt (testsOfForward tweak message)
+answerBehindKey Hch tweak message = answerOfHch tweak message
+answerBehindKey Forward tweak message = answerOfForward tweak message

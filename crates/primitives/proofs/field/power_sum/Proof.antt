@@ -11,6 +11,7 @@ use Rattle.strings.specs.Xor.{_⊕_}
 use Rattle.blocks.specs.Blocks.{firstBlock, blocks}
 use Rattle.blocks.specs.BlockField.{_·_}
 use Rattle.blocks.specs.Inner.{horner, value}
+use Rattle.strings.proofs.Place.{part-behind}
 use Rattle.blocks.proofs.Blocks.{blocks-nil, blocks-below}
 use Rattle.blocks.proofs.Halves.{value-below}
 use Rattle.blocks.proofs.Horner.{horner-next, horner-rule}
@@ -33,6 +34,15 @@ sub-at c = search needs
 loop-holds : tie.Need-loop-holds Inv-loop μ-loop
 loop-holds c = c .pairs .ensures
 
+sub-read : tie.Need-sub-read Inv-loop μ-loop
+sub-read c = search needs
+
+part-read-start : tie.Need-part-read-start Inv-loop μ-loop
+part-read-start c = search needs
+
+part-read-end : tie.Need-part-read-end Inv-loop μ-loop
+part-read-end c = search needs
+
 read-requires : tie.Need-read-requires Inv-loop μ-loop
 read-requires c κs = search needs
 
@@ -50,12 +60,16 @@ loop-less c = omega arith
 
 loop-again : tie.Need-loop-again Inv-loop μ-loop
 loop-again c =
-    let l = c .before .before .before .before .loop in
-    let args = c .before .before .before .before .before .before .before .args in
+    let read = c .before .before in
+    let test = read .before .before in
+    let l = test .before .loop in
+    let args = test .before .before .before .before .args in
+    let s = now (args .s) in
     let R : ℕ = value (args .r) in
-    let turn : value (c .product .result) ≡ (value (l .sum) ⊕ firstBlock (drop (l .at) (now (args .s)))) · R =
-    c .product .ensures ∙ ap (λ (x : ℕ). x · R) (c .before .xor .ensures ∙ ap (λ (x : ℕ). value (l .sum) ⊕ x) (c .before .before .read .ensures)) in
-    rw turn (sym (horner-next _·_ R (value (l .sum)) (l .at) (now (args .s)) (c .before .before .before .loop-test .taken)) ∙ l .inv)
+    let next : value (read .read .result) ≡ firstBlock (drop (l .at) s) = rw (part-behind (l .at) s) at (read .read .ensures) in
+    let turn : value (c .product .result) ≡ (value (l .sum) ⊕ firstBlock (drop (l .at) s)) · R =
+    c .product .ensures ∙ ap (λ (x : ℕ). x · R) (c .before .xor .ensures ∙ ap (λ (x : ℕ). value (l .sum) ⊕ x) next) in
+    rw turn (sym (horner-next _·_ R (value (l .sum)) (l .at) s (test .loop-test .taken)) ∙ l .inv)
 
 returns : tie.Need-returns Inv-loop μ-loop
 unfolding horner
@@ -77,6 +91,9 @@ power-sum-spec =
     pairs-requires
     sub-at
     loop-holds
+    sub-read
+    part-read-start
+    part-read-end
     read-requires
     xor-requires
     product-requires
