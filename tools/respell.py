@@ -53,6 +53,16 @@ def snake(word):
     return re.sub(r"([a-z0-9'₀-₉])([A-Z])", lambda m: m[1] + "_" + m[2].lower(), word)
 
 
+def imported():
+    """Names that some file has from the library, which are not ours."""
+    found = set()
+    for path in files():
+        for origin, names in re.findall(r"^(?:pub |ghost )*use ([\w.]+)\.\{([^}]*)\}", path.read_text(), re.M):
+            if not origin.startswith("Rattle.") or origin.startswith("Rattle.std."):
+                found |= {n.strip().split(" as ")[0] for n in names.split(",")}
+    return found
+
+
 def functions():
     found = set()
     for path in files():
@@ -63,7 +73,7 @@ def functions():
 
 def table():
     """Old names to new ones: words in camel case first, since a lemma that would fall together with another name gets `_lem`."""
-    names = {n for n in defined() if n[:1].isalpha() and not n[:1].isupper()}
+    names = {n for n in defined() - imported() if n[:1].isalpha() and not n[:1].isupper()}
     plain = {n for n in names if "-" not in n}
     words = NAMES | plain | {snake(n) for n in plain}
     result = {n: snake(n) for n in sorted(plain) if snake(n) != n}

@@ -1,4 +1,5 @@
 // What bench/ measures from C.
+#![tactic(auto)]
 ghost use Rattle.std.specs.Prelude.{◌≡◌};
 ghost use Rattle.strings.specs.Bytes.{bytes};
 ghost use Rattle.strings.specs.Inner.{overwrite};

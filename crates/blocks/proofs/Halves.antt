@@ -5,7 +5,7 @@ use Prim.Native.Nat.{ℕ, ◌+◌, ◌*◌, ◌/◌, ◌%◌, ◌^◌, ◌<◌}
 use native.Mathlib.Nat.{mul_comm, mul_assoc, zero-mul, add_comm, mul-add-div_right, mul-div-mul_right, add-mul-mod_self_right, mod-lt, mod-eq_of_lt, mul-mod_left, lt_of_le_of_lt, zero-add}
 use native.Mathlib.Omega.{arith}
 use lib.Arith.{digits_lt}
-use lib.Pow.{pow_pos, pow-add, high, low, split, mod_pow_add, shr-shr, shl_shr, shr_lt, shr_le}
+use lib.Pow.{pow_pos, pow-add, high, low, split, mod-pow-add, shr-shr, shl-shr, shr_lt, shr_le}
 use Rattle.strings.specs.Xor.{◌⊕◌}
 use Rattle.blocks.specs.Inner.{value}
 use Rattle.blocks.specs.declared.block.Block.{Block}
@@ -52,7 +52,7 @@ halves_shifted i j w hi lo e h =
     ∙ ap (λ (x : ℕ). hi * 2 ^ i % 2 ^ w ⊕ x) (mod-eq_of_lt (lt_of_le_of_lt (shr_le lo j) h)) in
     let below : n % 2 ^ w ≡ lo * 2 ^ i % 2 ^ w =
     ap (λ (x : ℕ). x % 2 ^ w) (regroup hi lo (2 ^ w) (2 ^ i)) ∙ add-mul-mod_self_right (lo * 2 ^ i) (hi * 2 ^ i) (2 ^ w) in
-    sym (mod_pow_add n w w ∙ ap₂ (λ (x y : ℕ). x * 2 ^ w + y) cut below)
+    sym (mod-pow-add n w w ∙ ap₂ (λ (x y : ℕ). x * 2 ^ w + y) cut below)
   where
     regroup : (hi lo n m : ℕ) → (hi * n + lo) * m ≡ lo * m + hi * m * n
     regroup hi lo n m = omega arith
@@ -80,8 +80,8 @@ parts-crossed w h₁ h₀ l₁ l₀ m₁ m₀ hh hl hm hn =
     let up : h₁ * 2 ^ w + (h₀ ⊕ m₁) ≡ h₁ * 2 ^ w + h₀ ⊕ (m₁ * 2 ^ w + m₀) / 2 ^ w =
     halves-reduced w h₁ h₀ m₁ hh hm ∙ xor_comm m₁ (h₁ * 2 ^ w + h₀) ∙ ap (λ (x : ℕ). h₁ * 2 ^ w + h₀ ⊕ x) (sym (high m₁ w hn)) in
     let cut : (m₁ * 2 ^ w + m₀) * 2 ^ w % 2 ^ (w + w) ≡ m₀ * 2 ^ w + 0 =
-    mod_pow_add ((m₁ * 2 ^ w + m₀) * 2 ^ w) w w
-    ∙ ap₂ (λ (x y : ℕ). x % 2 ^ w * 2 ^ w + y) (shl_shr (m₁ * 2 ^ w + m₀) w) (mul-mod_left (m₁ * 2 ^ w + m₀) (2 ^ w))
+    mod-pow-add ((m₁ * 2 ^ w + m₀) * 2 ^ w) w w
+    ∙ ap₂ (λ (x y : ℕ). x % 2 ^ w * 2 ^ w + y) (shl-shr (m₁ * 2 ^ w + m₀) w) (mul-mod_left (m₁ * 2 ^ w + m₀) (2 ^ w))
     ∙ ap (λ (x : ℕ). x * 2 ^ w + 0) (low m₁ w hn) in
     let down : (l₁ ⊕ m₀) * 2 ^ w + l₀ ≡ l₁ * 2 ^ w + l₀ ⊕ (m₁ * 2 ^ w + m₀) * 2 ^ w % 2 ^ (w + w) =
     ap (λ (x : ℕ). (l₁ ⊕ m₀) * 2 ^ w + x) (sym (xor-zero l₀)) ∙ sym (xor-parts w l₁ m₀ l₀ 0 hl (pow_pos w)) ∙ ap (λ (x : ℕ). l₁ * 2 ^ w + l₀ ⊕ x) (sym cut) in

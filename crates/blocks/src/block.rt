@@ -6,21 +6,21 @@ ghost use Rattle.strings.specs.Inner.{padded, overwrite};
 ghost use Rattle.blocks.specs.Blocks.{bin, first_block};
 ghost use Rattle.blocks.specs.Inner.{of_words, value};
 
-#[derive(Drop)]
+#[derive(Clone, Copy)]
 pub struct Block {
     pub hi: u64,
     pub lo: u64,
 }
 
 // Two blocks, one after the other.
-#[derive(Drop)]
+#[derive(Clone, Copy)]
 pub struct Pair {
     pub first: Block,
     pub second: Block,
 }
 
 // Three blocks, one after the other.
-#[derive(Drop)]
+#[derive(Clone, Copy)]
 pub struct Three {
     pub first: Block,
     pub second: Block,

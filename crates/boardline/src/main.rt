@@ -1,6 +1,7 @@
 // Enciphers and deciphers boards, a line each, from standard input to standard output (01, "For
 // the app, and at the desk"). What a line is and what is answered is the crate `line`; here it is
 // read, handed over and written.
+#![tactic(auto)]
 ghost use Rattle.std.specs.Prelude.{◌≤◌, length};
 
 use libc::{STDERR_FILENO, STDIN_FILENO, STDOUT_FILENO};
@@ -9,7 +10,7 @@ use text::part::Kept;
 
 // How the lines of a chunk were answered: with this kept of the line under way, or not, since
 // standard output takes no more.
-#[derive(Drop)]
+#[derive(Clone, Copy)]
 enum Went {
     On(Kept),
     Closed,

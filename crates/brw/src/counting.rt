@@ -7,7 +7,7 @@ ghost use Rattle.blocks.specs.Inner.{value as value_of};
 use blocks::block::Block;
 use primitives::field;
 
-#[derive(Drop)]
+#[derive(Clone, Copy)]
 pub struct Evaluation {
     pub value: Block,
     pub products: usize,

@@ -12,7 +12,7 @@ use strings::places;
 
 // Where a string of more than 48 bytes is split: k is the largest power of two not above the number of its blocks, and 2 to this exponent; the kth block stands
 // from `at` on, and those behind it from `end` on.
-#[derive(Drop)]
+#[derive(Clone, Copy)]
 struct Split {
     exponent: usize,
     at: usize,

@@ -1,4 +1,5 @@
 // The BRW polynomials of 02's Point 6, evaluated on the blocks of lent bytes, and the hash that is made of them.
+#![tactic(auto)]
 ghost use Rattle.std.specs.Prelude.{ℕ, ◌≤◌, ◌≡◌, length};
 ghost use Rattle.blocks.specs.Blocks.{blocks};
 ghost use Rattle.blocks.specs.BlockField.{◌·◌};

@@ -5,7 +5,7 @@ use mathlib.Core.Path.{◌≡◌, refl}
 use mathlib.Core.List.{List}
 use native.Mathlib.Omega.{arith}
 use lib.ListN.{length, length-drop}
-use borrow.Author.Tests.{ne_eqb, lt-ltb, le_ltb}
+use borrow.Author.Tests.{ne_eqb, lt-ltb, le-ltb}
 use Rattle.strings.specs.Cipher.{Scheme}
 use Rattle.strings.specs.Call.{refusal_number, number_of, looks_at, left_by}
 use Rattle.strings.specs.Message.{tests as testsOfMessage}
@@ -35,8 +35,8 @@ module _ (S : Scheme) (keys : (key : List ℕ) → S.is_key key ≡ is_key key) 
     seal_1 = λ key payload place block k. rw (keys key, no_key key k);
     seal_7 = λ key payload place block k b. rw (keys key, is_key key k, ne_eqb _ 512 b);
     seal_5 = λ key payload place block k b u. rw (keys key, is_key key k, b, lt-ltb 496 _ u);
-    seal_6 = λ key payload place block k b u n. rw (keys key, is_key key k, b, le_ltb 496 _ u, lt-ltb 65535 _ n);
-    seal-done = λ key payload place block k b u n. rw (keys key, is_key key k, b, le_ltb 496 _ u, le_ltb 65535 _ n);
+    seal_6 = λ key payload place block k b u n. rw (keys key, is_key key k, b, le-ltb 496 _ u, lt-ltb 65535 _ n);
+    seal-done = λ key payload place block k b u n. rw (keys key, is_key key k, b, le-ltb 496 _ u, le-ltb 65535 _ n);
   }
 
   pub opening_numbers : OpeningNumbers S
@@ -45,9 +45,9 @@ module _ (S : Scheme) (keys : (key : List ℕ) → S.is_key key ≡ is_key key) 
     open_1 = λ key pack place block k. rw (keys key, no_key key k);
     open_7 = λ key pack place block k b. rw (keys key, is_key key k, ne_eqb _ 512 b);
     open_6 = λ key pack place block k b n. rw (keys key, is_key key k, b, lt-ltb 65535 _ n);
-    open_8 = λ key pack place block k b n e some. rw (keys key, is_key key k, b, le_ltb 65535 _ n, e, not_zero block some);
-    open_12 = λ key pack place block k b n e zero. rw (keys key, is_key key k, b, le_ltb 65535 _ n, e, zero-told block zero);
-    open_done = λ key pack place block k b n e. (rw (keys key, is_key key k, b, le_ltb 65535 _ n, e), rw (keys key, is_key key k, b, le_ltb 65535 _ n, e));
+    open_8 = λ key pack place block k b n e some. rw (keys key, is_key key k, b, le-ltb 65535 _ n, e, not_zero block some);
+    open_12 = λ key pack place block k b n e zero. rw (keys key, is_key key k, b, le-ltb 65535 _ n, e, zero-told block zero);
+    open_done = λ key pack place block k b n e. (rw (keys key, is_key key k, b, le-ltb 65535 _ n, e), rw (keys key, is_key key k, b, le-ltb 65535 _ n, e));
   }
 
   -- And of the calls on messages.
@@ -58,8 +58,8 @@ module _ (S : Scheme) (keys : (key : List ℕ) → S.is_key key ≡ is_key key) 
     message_1 = λ key tweak message k. rw (keys key, no_key key k);
     message_2 = λ key tweak message k t. rw (keys key, is_key key k, ne_eqb _ 16 t);
     message_short = λ key tweak message k t n. rw (keys key, is_key key k, t, lt-ltb _ least n);
-    message_4 = λ key tweak message k t n. rw (keys key, is_key key k, t, le_ltb (length message) least (omega (arith, n, l)), lt-ltb 4096 _ n);
-    message_done = λ key tweak message k t n m. rw (keys key, is_key key k, t, le_ltb _ least n, le_ltb 4096 _ m);
+    message_4 = λ key tweak message k t n. rw (keys key, is_key key k, t, le-ltb (length message) least (omega (arith, n, l)), lt-ltb 4096 _ n);
+    message_done = λ key tweak message k t n m. rw (keys key, is_key key k, t, le-ltb _ least n, le-ltb 4096 _ m);
   }
 
 pub demand_1 : Demand1

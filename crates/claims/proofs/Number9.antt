@@ -7,7 +7,7 @@ use mathlib.Core.List.{List, [], ◌∷◌}
 use mathlib.Core.Logic.{⊎_elim}
 use native.Mathlib.Nat.{mod-lt, mod-eq_of_lt, eq-zero-or-pos}
 use native.Mathlib.Omega.{arith}
-use borrow.Author.Tests.{lt-ltb, le_ltb}
+use borrow.Author.Tests.{lt-ltb, le-ltb}
 use lib.Dec.{lit<}
 use lib.ListN.{get_or}
 use Rattle.strings.specs.Bytes.{bytes}
@@ -36,7 +36,7 @@ unfolding refusal decimal
 written_9 n h e = ⊎_elim
     (λ (two : 10 - n ≡ 0).
     let low : n % 10 < 10 = mod-lt n (lit< tt) in
-    let fifth : 48 + n % 10 ≡ 10 = rw (le_ltb n 10 (omega (arith, two)), lt-ltb (n % 10) 10 low) at (ap (λ (s : List ℕ). get_or s 4 0) e) in
+    let fifth : 48 + n % 10 ≡ 10 = rw (le-ltb n 10 (omega (arith, two)), lt-ltb (n % 10) 10 low) at (ap (λ (s : List ℕ). get_or s 4 0) e) in
     absurd (omega (arith, fifth)))
     (λ (one : 0 < 10 - n).
     let less : n < 10 = omega (arith, one) in

@@ -6,7 +6,7 @@ use mathlib.Core.Bool.{false}
 use mathlib.Core.List.{List, [], ◌∷◌}
 use mathlib.Core.Logic.{inl, inr, ⊎_elim}
 use native.Mathlib.Omega.{arith}
-use borrow.Author.Tests.{eq_eqb, ne_eqb, lt-ltb, le_ltb}
+use borrow.Author.Tests.{eq-eqb, ne_eqb, lt-ltb, le-ltb}
 use lib.Dec.{ltb}
 use lib.ListN.{length, get_or, replicate}
 use Rattle.strings.specs.Bytes.{Bytes}
@@ -70,7 +70,7 @@ module _ (key : List ℕ) (n first : ℕ) (lengths run : List ℕ) (l : Lent key
 
   seals_5 : (i : ℕ) → 496 < get_or lengths i 0 → of_sealing key first lengths run ≡ 5
   unfolding testsOfSealing looks_at
-  seals_5 i over = rw (is_key key l.0, is_one n run l.1, eq_eqb (length lengths) (length run / 512) same_list, over_some 496 lengths i over)
+  seals_5 i over = rw (is_key key l.0, is_one n run l.1, eq-eqb (length lengths) (length run / 512) same_list, over_some 496 lengths i over)
 
   within : NoneOver n lengths → some_over 496 lengths ≡ false
   within none = some_over_lem 496 lengths (λ i h. none i (omega (arith, h, l.2)))
@@ -79,19 +79,19 @@ module _ (key : List ℕ) (n first : ℕ) (lengths run : List ℕ) (l : Lent key
   unfolding testsOfSealing looks_at
   seals_6 none past =
       let far : 65535 < first + length run / 512 - 1 = rw count past in
-      rw (is_key key l.0, is_one n run l.1, eq_eqb (length lengths) (length run / 512) same_list, within none, lt-ltb 65535 (first + length run / 512 - 1) far)
+      rw (is_key key l.0, is_one n run l.1, eq-eqb (length lengths) (length run / 512) same_list, within none, lt-ltb 65535 (first + length run / 512 - 1) far)
 
   sealed : NoneOver n lengths → first + n - 1 ≤ 65535 → of_sealing key first lengths run ≡ 0
   unfolding testsOfSealing looks_at
   sealed none last =
       let near : first + length run / 512 - 1 ≤ 65535 = rw count last in
-      rw (is_key key l.0, is_one n run l.1, eq_eqb (length lengths) (length run / 512) same_list, within none, le_ltb 65535 (first + length run / 512 - 1) near)
+      rw (is_key key l.0, is_one n run l.1, eq-eqb (length lengths) (length run / 512) same_list, within none, le-ltb 65535 (first + length run / 512 - 1) near)
 
   opens_6 : (pack : ℕ) → 65535 < first + n - 1 → of_opening key pack first lengths run ≡ 6
   unfolding testsOfOpening looks_at
   opens_6 pack past =
       let far : 65535 < first + length run / 512 - 1 = rw count past in
-      rw (is_key key l.0, is_one n run l.1, eq_eqb (length lengths) (length run / 512) same_list, lt-ltb 65535 (first + length run / 512 - 1) far)
+      rw (is_key key l.0, is_one n run l.1, eq-eqb (length lengths) (length run / 512) same_list, lt-ltb 65535 (first + length run / 512 - 1) far)
 
   opened : (pack : ℕ) → first + n - 1 ≤ 65535 → ((i : ℕ) → i < n → of_block key pack first run i ≡ 0) → of_opening key pack first lengths run ≡ 0
   unfolding testsOfOpening looks_at
@@ -100,8 +100,8 @@ module _ (key : List ℕ) (n first : ℕ) (lengths run : List ℕ) (l : Lent key
       rw (
         is_key key l.0,
         is_one n run l.1,
-        eq_eqb (length lengths) (length run / 512) same_list,
-        le_ltb 65535 (first + length run / 512 - 1) near,
+        eq-eqb (length lengths) (length run / 512) same_list,
+        le-ltb 65535 (first + length run / 512 - 1) near,
         all-open hch key pack first run (length run / 512) (λ i h. each i (omega (arith, h, count))),
       )
 
@@ -125,7 +125,7 @@ three (suc (suc (suc i))) =
       ne_eqb (suc (suc (suc i))) 2 (λ e. omega (arith, e)),
       ne_eqb (suc (suc (suc i))) 0 (λ e. omega (arith, e)),
       ne_eqb (suc (suc (suc i))) 1 (λ e. omega (arith, e)),
-      le_ltb (suc (suc (suc i))) 3 (omega arith),
+      le-ltb (suc (suc (suc i))) 3 (omega arith),
     )
 
 numbers : let key : List ℕ = replicate 16 0 in

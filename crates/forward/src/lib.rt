@@ -1,4 +1,5 @@
 // The encryption-only scheme of source document 000 over AES, on lent bytes. Only AES's encryption is used, both ways.
+#![tactic(auto)]
 ghost use Rattle.std.specs.Prelude.{ℕ, ◌*◌, ◌≤◌, ◌≡◌, true, [], length, drop};
 ghost use Rattle.strings.specs.Cipher.{TweakableCipher, Same};
 ghost use Rattle.strings.specs.Xor.{◌⊕◌};
@@ -20,7 +21,7 @@ use strings::message;
 use strings::refusal::{Answer, Refusal};
 
 // The hash key of Table 3.
-#[derive(Drop)]
+#[derive(Clone, Copy)]
 struct Key {
     tau: Block,
     tau_prime: Block,

@@ -1,4 +1,5 @@
 // HCH of Chakraborty and Sarkar over AES, on lent bytes.
+#![tactic(auto)]
 ghost use Rattle.std.specs.Prelude.{ℕ, ◌≤◌, ◌≡◌, true, [], length};
 ghost use Rattle.strings.specs.Cipher.{TweakableCipher, Same};
 ghost use Rattle.strings.specs.Xor.{◌⊕◌};

@@ -6,7 +6,7 @@ use mathlib.Core.Bool.{Bool, true, false, cond, ◌&&◌, false≢true, and_asso
 use mathlib.Core.List.{List, ◌++◌, append_assoc}
 use native.Mathlib.Nat.{zero-div, zero-add, mod-eq_of_lt}
 use native.Mathlib.Omega.{arith}
-use borrow.Author.Tests.{le-leb, lt-leb, leb-true, eq_eqb, ne_eqb}
+use borrow.Author.Tests.{le-leb, lt-leb, leb-true, eq-eqb, ne_eqb}
 use lib.Dec.{leb}
 use lib.ListN.{length, take, drop, replicate, length-append, length-replicate, length-drop, length-take, take-append-drop}
 use lib.Seq.{drop-drop, drop_at, take_all, take_at, length-take-le}
@@ -245,7 +245,7 @@ module _ (pack place : ℕ) (B : List ℕ) where
 
 pub both_fit : (payload block : List ℕ) → length payload ≤ 496 → length block ≡ 512 → fits payload block ≡ true
 unfolding fits
-both_fit payload block h l = rw (le-leb (length payload) 496 h, eq_eqb (length block) 512 l)
+both_fit payload block h l = rw (le-leb (length payload) 496 h, eq-eqb (length block) 512 l)
 
 -- Of a payload that stands at the front of its block: what the tests tell, and the block when its check was written.
 and_false : (t : Bool) → (t && false) ≡ false

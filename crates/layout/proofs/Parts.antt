@@ -7,9 +7,9 @@ use mathlib.Core.Logic.{⊎_elim}
 use mathlib.Core.List.{List, [], ◌++◌}
 use native.Mathlib.Nat.{eq-zero-or-pos, eq-or-lt_of_le}
 use native.Mathlib.Omega.{arith}
-use borrow.Author.Tests.{leb-true, leb-false, eqb-true, eq_eqb, le-leb, lt-leb}
+use borrow.Author.Tests.{leb-true, leb-false, eqb-true, eq-eqb, le-leb, lt-leb}
 use lib.Dec.{leb, eqb}
-use lib.ListN.{length, get_or, take, drop, length-append, length-drop, get_or_append}
+use lib.ListN.{length, get_or, take, drop, length-append, length-drop, get_or-append}
 use lib.Seq.{length-take-le, get_or-take, get_or-drop, get_or-append-add, take-add, take-length, ext_get_or}
 use Rattle.strings.specs.Call.{number_of, looks_at, left_by}
 use Rattle.strings.specs.declared.refusal.Answer.TheVariants.{Done}
@@ -45,7 +45,7 @@ pub pack_of : (n : ℕ) (pack : List ℕ) → length pack ≡ 512 * n → 1 ≤ 
 unfolding is_pack
 pack_of n pack h low high =
     let whole : length pack % 512 ≡ 0 = omega (arith, h) in
-    rw (eq_eqb _ 0 whole, le-leb 1 (block_count pack) (rw (count_of n pack h) low), le-leb (block_count pack) 128 (rw (count_of n pack h) high))
+    rw (eq-eqb _ 0 whole, le-leb 1 (block_count pack) (rw (count_of n pack h) low), le-leb (block_count pack) 128 (rw (count_of n pack h) high))
 
 -- A place that is found stands within the pack, and is below 128.
 pub found_within : (place : ℕ) (pack : List ℕ) → answer_of place pack ≡ Done → 512 * place + 512 ≤ length pack
@@ -101,11 +101,11 @@ module _ (place : ℕ) (block pack : List ℕ) (room : 512 * place + 512 ≤ len
   pub with_before : (i : ℕ) → i < 512 * place → get_or (with_part place block pack) i 0 ≡ get_or pack i 0
   unfolding with_part
   with_before i h =
-      get_or_append (take (512 * place) pack) (block ++ drop (512 * suc place) pack) 0 i (rw front h)
+      get_or-append (take (512 * place) pack) (block ++ drop (512 * suc place) pack) 0 i (rw front h)
       ∙ get_or-take (512 * place) pack i 0 h
 
   pub with_within : (j : ℕ) → j < 512 → get_or (with_part place block pack) (512 * place + j) 0 ≡ get_or block j 0
-  with_within j h = past-front j ∙ get_or_append block (drop (512 * suc place) pack) 0 j (rw long h)
+  with_within j h = past-front j ∙ get_or-append block (drop (512 * suc place) pack) 0 j (rw long h)
 
   pub with_behind : (k : ℕ) → get_or (with_part place block pack) (512 * suc place + k) 0 ≡ get_or pack (512 * suc place + k) 0
   with_behind k =

@@ -1,4 +1,5 @@
 // The plain block of 512 bytes and its tweak, as 01 lays them out, a block of zeros, and where a block stands in a pack, on lent bytes. Nothing here knows of a cipher.
+#![tactic(auto)]
 ghost use Rattle.std.specs.Prelude.{◌+◌, ◌≤◌, ◌≡◌, cond, eqb, length, take, drop};
 ghost use Rattle.strings.specs.Bytes.{bytes, equal};
 ghost use Rattle.strings.specs.Inner.{overwrite};
@@ -11,7 +12,7 @@ pub use finding::{find, find_answer, find_mut, is_pack};
 use strings::number;
 
 // What a block is read as: the length of the payload where it passes its check.
-#[derive(Drop)]
+#[derive(Clone, Copy)]
 pub enum Verdict {
     Passed(usize),
     Failed,

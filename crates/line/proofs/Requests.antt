@@ -9,7 +9,7 @@ use native.Mathlib.Nat.{not-suc-le-zero, le_of_suc-le-suc}
 use native.Mathlib.Omega.{arith}
 use lib.ListN.{length, take, drop, get_or}
 use lib.Dec.{ltb, eqb}
-use borrow.Author.Tests.{ltb-true, ltb-false, eqb-true, lt-leb, le-leb, eq_eqb, ne_eqb}
+use borrow.Author.Tests.{ltb-true, ltb-false, eqb-true, lt-leb, le-leb, eq-eqb, ne_eqb}
 use Rattle.text.specs.Hex.{is_digit, hex, is_hex, unhex}
 use Rattle.text.specs.Part.{split_from, split}
 use Rattle.text.specs.Inner.{before, field_of, decoded_of, decoded_in}
@@ -169,7 +169,7 @@ unfolding split_from commanded
 line_fields [] h e = absurd (omega arith)
 line_fields (c ∷ []) h e = absurd (omega arith)
 line_fields (c ∷ d ∷ rest) h e =
-    first c (d ∷ rest) _ (λ z. none (split 32 (d ∷ rest)) ∙ sym (no_command (c ∷ []) (split 32 rest) (λ k t m. rw z refl))) (rw (eq_eqb d 32 e) refl)
+    first c (d ∷ rest) _ (λ z. none (split 32 (d ∷ rest)) ∙ sym (no_command (c ∷ []) (split 32 rest) (λ k t m. rw z refl))) (rw (eq-eqb d 32 e) refl)
 
 pub answer-long : (line : List ℕ) → 8300 < length line → answer line ≡ refusal 9
 unfolding answer request_of reply_to

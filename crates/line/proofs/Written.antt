@@ -7,7 +7,7 @@ use native.Mathlib.Nat.{not-suc-le-zero, zero-add, pow-le-pow_right}
 use native.Mathlib.Omega.{arith}
 use lib.ListN.{length, take, drop, length-append}
 use lib.Seq.{take_all, take_at}
-use borrow.Author.Tests.{lt-ltb, le_ltb}
+use borrow.Author.Tests.{lt-ltb, le-ltb}
 use Rattle.io.specs.Digits.{last_digits, IsDigitCount}
 use Rattle.text.specs.Hex.{hex}
 use Rattle.text.specs.Inner.{fitting, encoded_in}
@@ -55,7 +55,7 @@ pub fewest : (n k : ℕ) → n < 100 → IsDigitCount 10 1 n k → (k ≤ 2) × 
 unfolding decimal
 fewest n zero h (l, u, m) = absurd (omega arith)
 fewest n (suc zero) h (l, u, m) = (omega arith, rw (lt-ltb n 10 (omega arith)))
-fewest n (suc (suc zero)) h (l, u, m) = (omega arith, rw (le_ltb n 10 (m (omega arith))))
+fewest n (suc (suc zero)) h (l, u, m) = (omega arith, rw (le-ltb n 10 (m (omega arith))))
 fewest n (suc (suc (suc k))) h (l, u, m) =
     let three : 10 ^ 2 ≤ 10 ^ (suc (suc (suc k)) - 1) = pow-le-pow_right {n = 10} (omega arith) {i = 2} {j = suc (suc (suc k)) - 1} (omega arith) in
     absurd (omega (arith, three, m (omega arith)))

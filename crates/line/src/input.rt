@@ -9,7 +9,7 @@ use text::part::Kept;
 
 // What a call of `next` did: how many bytes of the chunk it used up, what is kept of the line under
 // way, and how many bytes of an answer it wrote.
-#[derive(Drop)]
+#[derive(Clone, Copy)]
 pub struct Step {
     pub used: usize,
     pub kept: Kept,

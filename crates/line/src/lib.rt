@@ -1,5 +1,6 @@
 // The lines of `boardline` on lent slices: one line and its answer, and the lines of an input that
 // arrives in chunks.
+#![tactic(auto)]
 mod answering;
 mod input;
 

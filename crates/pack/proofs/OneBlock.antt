@@ -6,7 +6,7 @@ use mathlib.Core.Bool.{Bool, true, false, cond, not, ◌&&◌, false≢true}
 use mathlib.Core.List.{List, [], ◌∷◌}
 use mathlib.Core.Logic.{inl, inr, ⊎_elim}
 use native.Mathlib.Omega.{arith}
-use borrow.Author.Tests.{eqb-true, ltb-false, eq_eqb, le_ltb}
+use borrow.Author.Tests.{eqb-true, ltb-false, eq-eqb, le-ltb}
 use lib.Dec.{eqb}
 use lib.ListN.{length, get_or, take, drop}
 use lib.Seq.{length-take-le}
@@ -66,8 +66,8 @@ module _ (S : Scheme) (key : List ℕ) (pack place : ℕ) (C : List ℕ) where
   pub by-check : Openable S key place C → (t : Bool) → passes pack place (deciphered_block S key pack place C) ≡ t
       → answer_of S key pack place C ≡ cond (not t) (Refused (failure C)) (Done (used (deciphered_block S key pack place C)))
   unfolding tests looks_at
-  by-check o true e = rw (o.is_key_lem, eq_eqb _ 512 o.block-length, le_ltb 65535 _ o.place_limit, e)
-  by-check o false e = rw (o.is_key_lem, eq_eqb _ 512 o.block-length, le_ltb 65535 _ o.place_limit, e)
+  by-check o true e = rw (o.is_key_lem, eq-eqb _ 512 o.block-length, le-ltb 65535 _ o.place_limit, e)
+  by-check o false e = rw (o.is_key_lem, eq-eqb _ 512 o.block-length, le-ltb 65535 _ o.place_limit, e)
 
   -- What is known of a call that was done.
   record Admitted : Type 0 where
@@ -91,7 +91,7 @@ module _ (S : Scheme) (key : List ℕ) (pack place : ℕ) (C : List ℕ) where
   refused-first {why} e =
       let B = deciphered_block S key pack place C in
       let passed : Openable S key place C → looks_at (take 3 (tests S key pack place C)) ≡ NoTestHolds =
-      λ o. rw (o.is_key_lem, eq_eqb (length C) 512 o.block-length, le_ltb 65535 place o.place_limit) (all_passed _ (refl, (refl, (refl, tt)))) in
+      λ o. rw (o.is_key_lem, eq-eqb (length C) 512 o.block-length, le-ltb 65535 place o.place_limit) (all_passed _ (refl, (refl, (refl, tt)))) in
       let refused : FirstIs why ≡ FirstIs why = refl in
       record {
         answered = sym (ap (returning (used B)) (refused_early 3 (tests S key pack place C) why e));

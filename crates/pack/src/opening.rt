@@ -15,7 +15,7 @@ use schemes::SchemeName;
 use strings::refusal::{Answer, Refusal};
 
 // What opening answers: the length of the payload, or why the block was not opened.
-#[derive(Drop)]
+#[derive(Clone, Copy)]
 pub enum Opened {
     Done(usize),
     Refused(Refusal),

@@ -9,7 +9,7 @@ use native.Mathlib.Omega.{arith}
 use lib.Arith.{bin_ind, lt-one}
 use lib.Bits as bits
 use lib.Dec.{lit<, lit≤}
-use lib.Pow.{pow_pos, pow_mono, pow-add, split, shl_lt, shl_shr}
+use lib.Pow.{pow_pos, pow_mono, pow-add, split, shl_lt, shl-shr}
 use Rattle.strings.specs.Xor.{◌⊕◌}
 use Rattle.blocks.specs.Field.{times01}
 use Rattle.polynomials.specs.Inner.{carryless}
@@ -207,7 +207,7 @@ module _ (i j e t : ℕ) (place : i + j ≡ 4 * e + t) where
         mask_shift j (ones 8) y,
         mask_shift t (ones 16) (a * 2 ^ i * (b * 2 ^ j)),
         shifts a b,
-        shl_shr (a * b * 2 ^ (4 * e)) t,
+        shl-shr (a * b * 2 ^ (4 * e)) t,
         masked,
         carryless_shift_left 64 i a (b * 2 ^ j),
         carryless_shift_right (64 - j) 64 j a b (omega arith),

@@ -5,7 +5,7 @@ use mathlib.Core.Logic.{⊎_elim}
 use Prim.Native.Nat.{ℕ, zero, suc, ◌+◌, ◌-◌, ◌*◌, ◌/◌, ◌%◌, ◌^◌, ◌≤◌, ◌<◌}
 use native.Mathlib.Nat.{lt_of_lt_of_le, mul-one, zero-add, suc-add, add_comm, eq-zero-or-pos, mod-eq_of_lt, div-eq_of_lt, mul-mod_left}
 use native.Mathlib.Omega.{arith}
-use lib.Pow.{pow-lt, pow_mono, pow-add, high, low, shl_shr, shr_lt}
+use lib.Pow.{pow-lt, pow_mono, pow-add, high, low, shl-shr, shr_lt}
 use Rattle.strings.specs.Xor.{◌⊕◌}
 use Rattle.blocks.specs.Field.{times_x, product_n, product}
 use Rattle.polynomials.specs.Inner.{carryless, reduction}
@@ -42,7 +42,7 @@ module _ (k p : ℕ) where
     reduced-high : (m : ℕ) → m < k → reduction k p (2 ^ (m + k)) ≡ xs k p (m + k) 1
     unfolding reduction
     reduced-high m h =
-        rw (pow-add 2 m k, mul-mod_left (2 ^ m) (2 ^ k), shl_shr (2 ^ m) k, xs-left k p hk hp m h p hp, xs_plus m k 1, xs-top k p hk)
+        rw (pow-add 2 m k, mul-mod_left (2 ^ m) (2 ^ k), shl-shr (2 ^ m) k, xs-left k p hk hp m h p hp, xs_plus m k 1, xs-top k p hk)
         (xor_zero_left (xs k p m p))
 
     reduced_pow : (n : ℕ) → n < k + k → reduction k p (2 ^ n) ≡ xs k p n 1

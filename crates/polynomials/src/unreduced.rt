@@ -97,7 +97,7 @@ fn joined(low: u64, high: u64, both: u64) -> Block
 }
 
 // A product of two blocks, which is twice as long.
-#[derive(Drop)]
+#[derive(Clone, Copy)]
 pub struct Wide {
     pub high: Block,
     pub low: Block,

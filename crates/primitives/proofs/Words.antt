@@ -1,8 +1,8 @@
 -- The words of a key: their bytes, the round constants, and KeyExpansion word by word.
 -- Assumes nothing.
-use Rattle.std.proofs.Common.{◌≡◌, ℕ, zero, suc, ◌+◌, ◌-◌, ◌*◌, ◌/◌, ◌%◌, ◌^◌, ◌<◌, ◌≤◌, ◌&&◌, eqb, ltb, List, [], ◌∷◌, ◌++◌, length, get_or, drop, set, replicate, sym, refl, ap, ◌∙◌, append_assoc, lt_of_lt_of_le, le_of_suc-le-suc, not-suc-le-zero, add-zero, add_assoc, mod-eq_of_lt, mul-le-mul_left, lt_of_not-le, mul-zero, zero-add, arith, length-append, get_or-drop, drop-drop, le_ltb, lt-ltb}
+use Rattle.std.proofs.Common.{◌≡◌, ℕ, zero, suc, ◌+◌, ◌-◌, ◌*◌, ◌/◌, ◌%◌, ◌^◌, ◌<◌, ◌≤◌, ◌&&◌, eqb, ltb, List, [], ◌∷◌, ◌++◌, length, get_or, drop, set, replicate, sym, refl, ap, ◌∙◌, append_assoc, lt_of_lt_of_le, le_of_suc-le-suc, not-suc-le-zero, add-zero, add_assoc, mod-eq_of_lt, mul-le-mul_left, lt_of_not-le, mul-zero, zero-add, arith, length-append, get_or-drop, drop-drop, le-ltb, lt-ltb}
 use native.Mathlib.Nat.{mul-add-div, mul-add-mod_self_left, div-eq_of_lt}
-use lib.ListN.{length-replicate, get_or_append}
+use lib.ListN.{length-replicate, get_or-append}
 use lib.Seq.{set_at}
 use Rattle.strings.specs.Xor.{◌⊕◌, xor_bytes}
 use Rattle.strings.specs.Bytes.{Bytes, number, bytes}
@@ -96,7 +96,7 @@ Held n Nk key i words = words ≡ key_words Nk key i ++ replicate (n - i) 0
 
 module _ (n Nk : ℕ) (key : List ℕ) (i : ℕ) (words : List ℕ) (held : Held n Nk key i words) where
   read_held : (j : ℕ) → j < i → get_or words j 0 ≡ get_or (key_words Nk key i) j 0
-  read_held j l = rw held (get_or_append (key_words Nk key i) (replicate (n - i) 0) 0 j (rw (length-key_words Nk key i) l))
+  read_held j l = rw held (get_or-append (key_words Nk key i) (replicate (n - i) 0) 0 j (rw (length-key_words Nk key i) l))
 
   pub length-held : i ≤ n → length words ≡ n
   length-held l = rw (held, length-append, length-key_words Nk key i, length-replicate) (omega arith)
@@ -118,7 +118,7 @@ module _ (n Nk : ℕ) (key : List ℕ) (i : ℕ) (words : List ℕ) (held : Held
 
     pub put_next : 0 < Nk → Nk ≤ i → v ≡ get_or words (i - Nk) 0 ⊕ temp Nk i (get_or words (i - 1) 0) → Held n Nk key (i + 1) (set words i v)
     unfolding key_word
-    put_next pos l e = put (rw (le_ltb i Nk l, ← read_held (i - Nk) (omega arith), ← read_held (i - 1) (omega arith)) e)
+    put_next pos l e = put (rw (le-ltb i Nk l, ← read_held (i - Nk) (omega arith), ← read_held (i - 1) (omega arith)) e)
 
 -- Word i, at the place Nk * j + m behind the key's own words, has a round constant, where a key has at least four words.
 pub groups : (Nk j m : ℕ) {i : ℕ} → 4 ≤ Nk → m < Nk → i ≡ Nk * j + m → Nk ≤ i → i < 4 * (Nk + 7) → (1 ≤ j) × (j ≤ 10)

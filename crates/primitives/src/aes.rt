@@ -19,14 +19,14 @@ use strings::{number, places};
 const RCON: [u8; 10] = [0x01, 0x02, 0x04, 0x08, 0x10, 0x20, 0x40, 0x80, 0x1b, 0x36];
 
 // The words of KeyExpansion, four for each round key, and the number of rounds: 10 for a key of 16 bytes, 14 for one of 32.
-#[derive(Drop)]
+#[derive(Clone, Copy)]
 pub struct ExpandedKey {
     pub words: [u32; 60],
     pub rounds: usize,
 }
 
 // What comes of a string that is to be a key: whether it is one, and the key expanded, with 10 rounds or 14 as it has 16 bytes or 32.
-#[derive(Drop)]
+#[derive(Clone, Copy)]
 pub struct Expansion {
     pub is_key: bool,
     pub expanded: ExpandedKey,
@@ -54,7 +54,7 @@ fn round_constant(j: usize) -> u32
 }
 
 // Where the word Nk * j + m stands. Both numbers are counted, since two divisions for each word take a third of the time.
-#[derive(Drop)]
+#[derive(Clone, Copy)]
 struct Place {
     j: usize,
     m: usize,

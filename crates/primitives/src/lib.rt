@@ -1,4 +1,5 @@
 // The field of 2^128 elements and AES, on blocks.
+#![tactic(auto)]
 pub mod aes;
 pub mod field;
 mod inv_mixing;

@@ -5,7 +5,7 @@ use mathlib.Core.Path.{◌≡◌, refl, sym}
 use mathlib.Core.Bool.{true, false}
 use mathlib.Core.List.{List}
 use native.Mathlib.Omega.{arith}
-use borrow.Author.Tests.{eqb-true, ltb-false, eq_eqb, le_ltb}
+use borrow.Author.Tests.{eqb-true, ltb-false, eq-eqb, le-ltb}
 use lib.ListN.{length}
 use Rattle.strings.specs.Call.{number_of as numberOfTests, looks_at}
 use Rattle.strings.specs.Cipher.{Scheme}
@@ -62,7 +62,7 @@ module _ (S : Scheme) (key : List ℕ) (first : ℕ) (lengths run : List ℕ) wh
   pub no_test_holds : Admitted → looks_at (tests S key first lengths run) ≡ NoTestHolds
   unfolding tests
   no_test_holds a =
-      rw (a.is_key_lem, a.is_run, eq_eqb (length lengths) (block_count run) a.list_length, le_ltb 65535 (last_place first run) a.last_place_lem)
+      rw (a.is_key_lem, a.is_run, eq-eqb (length lengths) (block_count run) a.list_length, le-ltb 65535 (last_place first run) a.last_place_lem)
       (all_passed _ (refl, (refl, (refl, (refl, tt)))))
 
   pub in_range : Admitted → InRange first run

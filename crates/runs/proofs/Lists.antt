@@ -7,7 +7,7 @@ use mathlib.Core.List.{List, [], ◌∷◌, ◌++◌, append_assoc}
 use native.Mathlib.Nat.{one-mul}
 use native.Mathlib.Numerals.{add-one}
 use native.Mathlib.Omega.{arith}
-use borrow.Author.Tests.{ltb-false, le_ltb, lt-ltb, eqb-true, not_false}
+use borrow.Author.Tests.{ltb-false, le-ltb, lt-ltb, eqb-true, not_false}
 use lib.Dec.{ltb, eqb}
 use lib.ListN.{length, get_or, set, take, drop}
 use lib.Seq.{drop-cons, set_at, take_all}
@@ -51,7 +51,7 @@ over_some limit (u ∷ s) (suc i) h = one_or (ltb limit u) (over_some limit s i 
 pub some_over_lem : (limit : ℕ) (s : List ℕ) → ((i : ℕ) → i < length s → get_or s i 0 ≤ limit) → some_over limit s ≡ false
 unfolding some_over
 some_over_lem limit [] each = refl
-some_over_lem limit (u ∷ s) each = rw (le_ltb limit u (each 0 (omega arith))) (some_over_lem limit s (λ i h. each (suc i) (omega (arith, h))))
+some_over_lem limit (u ∷ s) each = rw (le-ltb limit u (each 0 (omega arith))) (some_over_lem limit s (λ i h. each (suc i) (omega (arith, h))))
 
 -- Of a list of another length than n, whose length is told before, no more than n entries have to be looked at.
 late_test : (a : Answer) (t : Bool) (why late : Refusal) (x y : Bool) → (t ≡ false → x ≡ y) → refuse_if (refuse_if a t why) x late ≡ refuse_if (refuse_if a t why) y late
@@ -85,4 +85,4 @@ filled_next g run lent i {s} {v} h here e =
 pub last_place_lem : (a : ℕ) → ltb 65536 a ≡ ltb 65535 (a - 1)
 last_place_lem a =
     before_or_from 65536 a (λ past. rw (lt-ltb 65536 a past, lt-ltb 65535 (a - 1) (omega (arith, past))))
-    (λ within. rw (le_ltb 65536 a within, le_ltb 65535 (a - 1) (omega (arith, within))))
+    (λ within. rw (le-ltb 65536 a within, le-ltb 65535 (a - 1) (omega (arith, within))))

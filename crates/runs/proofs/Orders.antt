@@ -6,7 +6,7 @@ use mathlib.Core.Bool.{Bool, true, false}
 use mathlib.Core.Logic.{◌⊎◌, inl, inr, ⊎_elim}
 use mathlib.Core.List.{List, [], ◌∷◌}
 use native.Mathlib.Omega.{arith}
-use borrow.Author.Tests.{eqb-true, eqb-false, eq_eqb, ne_eqb, lt-ltb, le_ltb}
+use borrow.Author.Tests.{eqb-true, eqb-false, eq-eqb, ne_eqb, lt-ltb, le-ltb}
 use lib.Dec.{eqb, ltb}
 use lib.ListN.{length}
 use Rattle.strings.specs.One.{tally}
@@ -26,7 +26,7 @@ same_or_not j i = decided (eqb j i) refl
 
 times-same : (i : ℕ) (order : List ℕ) → times i (i ∷ order) ≡ suc (times i order)
 unfolding times tally
-times-same i order = rw (eq_eqb i i refl) (omega arith)
+times-same i order = rw (eq-eqb i i refl) (omega arith)
 
 times-other : (j i : ℕ) (order : List ℕ) → (j ≡ i → ⊥) → times j (i ∷ order) ≡ times j order
 unfolding times tally
@@ -39,7 +39,7 @@ tally_most false = omega arith
 
 one_below : (i n : ℕ) {k : ℕ} → k ≡ tally (ltb i n) → k ≡ 1 → i < n
 unfolding tally
-one_below i n {k} e one = before_or_from i n (λ h. h) (λ from. let none : k ≡ 0 = rw (le_ltb i n from) at e in absurd (omega (arith, one, none)))
+one_below i n {k} e one = before_or_from i n (λ h. h) (λ from. let none : k ≡ 0 = rw (le-ltb i n from) at e in absurd (omega (arith, one, none)))
 
 below_one : (i n : ℕ) → i < n → tally (ltb i n) ≡ 1
 unfolding tally

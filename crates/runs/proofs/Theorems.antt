@@ -5,7 +5,7 @@ use mathlib.Core.Path.{◌≡◌, refl, sym, ap, ◌∙◌}
 use mathlib.Core.Bool.{true}
 use mathlib.Core.List.{List, [], ◌∷◌, ◌++◌}
 use native.Mathlib.Omega.{arith}
-use borrow.Author.Tests.{eq_eqb, le_ltb}
+use borrow.Author.Tests.{eq-eqb, le-ltb}
 use lib.ListN.{length, get_or, take, drop, replicate, length-take, length-append, length-replicate}
 use lib.Seq.{take_at}
 use Rattle.strings.specs.Bytes.{Bytes}
@@ -48,7 +48,7 @@ module _ (S : Scheme) (key : List ℕ) (k : S.is_key key ≡ true) (cipher : Twe
         let payload = payload_at lengths run i in
         let short : length payload ≤ 496 = rw length-take (omega (arith, none_over 496 lengths s.1 i)) in
         let place : first + i ≤ 65535 = omega (arith, (in_range S key first lengths run s.0).places, h) in
-        rw (s.0.is_key_lem, eq_eqb _ 512 (part_length i run (omega (arith, h))), le_ltb 496 (length payload) short, le_ltb 65535 (first + i) place)
+        rw (s.0.is_key_lem, eq-eqb _ 512 (part_length i run (omega (arith, h))), le-ltb 496 (length payload) short, le-ltb 65535 (first + i) place)
         (all_passed _ (refl, (refl, (refl, (refl, tt)))))
 
     sealed-one-by-one : (pack : ℕ) → Bytes run → (order : List ℕ) → OrderOf (block_count run) order

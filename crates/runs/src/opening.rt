@@ -16,7 +16,7 @@ use strings::number;
 use strings::refusal::{Answer, Refusal};
 
 // What opening a run answers: the lengths are in the list, or why the run was not opened, or why the block of a place was not, the first such place.
-#[derive(Drop)]
+#[derive(Clone, Copy)]
 pub enum RunOpened {
     Done,
     Refused(Refusal),

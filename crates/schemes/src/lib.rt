@@ -1,4 +1,5 @@
 // The schemes by name: one value says which of them is used, so that what stands above them is written once.
+#![tactic(auto)]
 ghost use Rattle.std.specs.Prelude.{ℕ, ◌≤◌, ◌≡◌, true, [], length};
 ghost use Rattle.strings.specs.Cipher.{TweakableCipher, Same};
 ghost use Rattle.strings.specs.Call.{number_of, left_by};
@@ -9,7 +10,7 @@ ghost use Rattle.schemes.specs.Schemes.{scheme_of, scheme_under, answer_behind_k
 use primitives::aes::{ExpandedKey, Expansion};
 use strings::refusal::Answer;
 
-#[derive(Drop)]
+#[derive(Clone, Copy)]
 pub enum SchemeName {
     Hch,
     Forward,

@@ -4,7 +4,7 @@ use mathlib.Core.Path.{◌≡◌, refl, sym}
 use mathlib.Core.Bool.{Bool, true, false, ◌&&◌, false≢true, and_assoc}
 use mathlib.Core.List.{List, [], ◌∷◌, ◌++◌}
 use Prim.Native.Nat.{ℕ}
-use borrow.Author.Tests.{eqb-true, eq_eqb}
+use borrow.Author.Tests.{eqb-true, eq-eqb}
 use lib.Dec.{eqb}
 use lib.ListN.{length, take, drop}
 use Rattle.strings.specs.Bytes.{equal}
@@ -13,7 +13,7 @@ use Rattle.strings.specs.Bytes.{equal}
 pub equal_refl : (s : List ℕ) → equal s s ≡ true
 unfolding equal
 equal_refl [] = refl
-equal_refl (a ∷ s) = rw (eq_eqb a a refl, equal_refl s)
+equal_refl (a ∷ s) = rw (eq-eqb a a refl, equal_refl s)
 
 pub both : (a b : Bool) → (a && b) ≡ true → (a ≡ true) × (b ≡ true)
 both true b e = (refl, e)

@@ -6,7 +6,7 @@ use mathlib.Core.Path.{◌≡◌, refl, sym, ap, ◌∙◌}
 use mathlib.Core.Bool.{true, false}
 use mathlib.Core.List.{List, []}
 use lib.ListN.{length}
-use borrow.Author.Tests.{ltb-false, eqb-true, eq_eqb, le_ltb}
+use borrow.Author.Tests.{ltb-false, eqb-true, eq-eqb, le-ltb}
 use Rattle.strings.specs.Bytes.{Bytes}
 use Rattle.strings.specs.Cipher.{Cipher, Scheme, Same}
 use Rattle.strings.specs.Call.{number_of, looks_at, left_by}
@@ -28,7 +28,7 @@ module _ (least : ℕ) (short : Refusal) (tweak message : List ℕ) where
   -- No test holds where the lengths are those that the scheme takes.
   pub all_admitted : Admitted least tweak message → looks_at (tests_behind_key least short tweak message) ≡ Done
   all_admitted a =
-      rw (eq_eqb (length tweak) 16 a.tweak-length, le_ltb (length message) least a.at_least, le_ltb 4096 (length message) a.at_most)
+      rw (eq-eqb (length tweak) 16 a.tweak-length, le-ltb (length message) least a.at_least, le-ltb 4096 (length message) a.at_most)
       (all_passed _ (refl, (refl, (refl, tt))))
 
   pub admitted-behind-key : number_of (looks_at (tests_behind_key least short tweak message)) ≡ 0 → Admitted least tweak message

@@ -8,7 +8,7 @@ pub fn write(out: &mut [u8], at: usize, s: &[u8])
 {
     if at < out.len() {
         let n = least(s.len(), out.len() - at);
-        bytes::copy(&s[0..n], &mut out[at..]);
+        out[at..at + n].copy_from_slice(&s[..n]);
     }
 }
 

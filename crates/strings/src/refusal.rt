@@ -4,7 +4,7 @@ ghost use Rattle.strings.specs.Call.{refusal_number, number_of};
 ghost use Rattle.strings.specs.Inner.{refuse_if};
 
 // The reasons of 01 and 02, in the order of their numbers.
-#[derive(Drop)]
+#[derive(Clone, Copy)]
 pub enum Refusal {
     KeyLength,
     TweakLength,
@@ -20,7 +20,7 @@ pub enum Refusal {
     ForwardTooShort,
 }
 
-#[derive(Drop)]
+#[derive(Clone, Copy)]
 pub enum Answer {
     Done,
     Refused(Refusal),

@@ -11,7 +11,7 @@ use native.Mathlib.Omega.{arith}
 use lib.ListN.{length, take, drop, get_or, set}
 use lib.Seq.{drop-cons, take_at}
 use lib.Dec.{leb, ltb, eqb}
-use borrow.Author.Tests.{le-leb, lt-leb, lt-ltb, le_ltb, leb-true, ltb-true, ltb-false, eq_eqb, ne_eqb, eqb-true}
+use borrow.Author.Tests.{le-leb, lt-leb, lt-ltb, le-ltb, leb-true, ltb-true, ltb-false, eq-eqb, ne_eqb, eqb-true}
 use Rattle.strings.proofs.Refusals.{either}
 use Rattle.text.specs.declared.hex.Decoded.{Decoded}
 use Rattle.text.specs.declared.hex.Decoded.TheVariants.{Bytes, Refused}
@@ -46,7 +46,7 @@ digit_value : (c : ℕ) → is_digit c ≡ true → digit (value c) ≡ c
 unfolding digit value
 digit_value c e =
     ⊎_elim (λ h. simp (le-leb c 57 h.1, lt-ltb (c - 48) 10 (omega arith)) (omega arith))
-    (λ h. simp (lt-leb c 57 (omega arith), le_ltb (c - 87) 10 (omega arith)) (omega arith)) (cases c e)
+    (λ h. simp (lt-leb c 57 (omega arith), le-ltb (c - 87) 10 (omega arith)) (omega arith)) (cases c e)
 
 test : (m n : ℕ) (b : Bool) → ltb m n ≡ b → (m < n) ⊎ (n ≤ m)
 test m n true e = inl (ltb-true m n e)
@@ -56,13 +56,13 @@ value-digit : (n : ℕ) → n < 16 → value (digit n) ≡ n
 unfolding digit value
 value-digit n h =
     ⊎_elim (λ l. simp (lt-ltb n 10 l, le-leb (48 + n) 57 (omega arith)) (omega arith))
-    (λ l. simp (le_ltb n 10 l, lt-leb (87 + n) 57 (omega arith)) (omega arith)) (test n 10 (ltb n 10) refl)
+    (λ l. simp (le-ltb n 10 l, lt-leb (87 + n) 57 (omega arith)) (omega arith)) (test n 10 (ltb n 10) refl)
 
 pub digit_is : (n : ℕ) → n < 16 → is_digit (digit n) ≡ true
 unfolding digit
 digit_is n h =
     ⊎_elim (λ l. simp (lt-ltb n 10 l) (decimal (48 + n) (omega arith) (omega arith)))
-    (λ l. simp (le_ltb n 10 l) (letter (87 + n) (omega arith) (omega arith))) (test n 10 (ltb n 10) refl)
+    (λ l. simp (le-ltb n 10 l) (letter (87 + n) (omega arith) (omega arith))) (test n 10 (ltb n 10) refl)
 
 -- ---- all digits, and an even number of them
 
@@ -139,7 +139,7 @@ all_hex (b ∷ bs) all =
 -- the digits of bytes are hexadecimal
 pub is_hex-hex : (bs : List ℕ) → ((i : ℕ) → get_or bs i 0 < 256) → is_hex (hex bs) ≡ true
 unfolding is_hex
-is_hex-hex bs all = simp (eq_eqb (length (hex bs) % 2) 0 (omega (arith, length-hex bs))) (all_hex bs all)
+is_hex-hex bs all = simp (eq-eqb (length (hex bs) % 2) 0 (omega (arith, length-hex bs))) (all_hex bs all)
 
 pairs : (s : List ℕ) → length s % 2 ≡ 0 → all_digits s ≡ true → hex (unhex s) ≡ s
 unfolding hex unhex all_digits

@@ -9,7 +9,7 @@ use native.Mathlib.Omega.{arith}
 use lib.ListN.{length, take, drop, length-append}
 use lib.Seq.{take-length, take-append-add}
 use lib.Dec.{eqb, leb}
-use borrow.Author.Tests.{eq_eqb, eqb-true, lt-leb, leb-false}
+use borrow.Author.Tests.{eq-eqb, eqb-true, lt-leb, leb-false}
 use Rattle.bytes.specs.Bytes.{slice, index_after, index_of}
 use Rattle.strings.specs.Inner.{overwrite}
 use Rattle.strings.proofs.Place.{length-overwrite, overwrite-past, overwrite-append}
@@ -94,7 +94,7 @@ split-before b u (x ∷ xs) z = before-test (eqb x b) b x u (before b xs) z refl
 
 pub split_end : (b : ℕ) (u z : List ℕ) → split_from b u (b ∷ z) ≡ u ∷ split_from b [] z
 unfolding split_from
-split_end b u z = rw (eq_eqb b b refl) refl
+split_end b u z = rw (eq-eqb b b refl) refl
 
 pub split-none : (b : ℕ) (u xs : List ℕ) → length xs ≤ length (before b xs) → split_from b u xs ≡ (u ++ xs) ∷ []
 unfolding split_from

@@ -4,7 +4,7 @@ ghost use Rattle.text.specs.Hex.{digit, is_digit, value, is_hex};
 ghost use Rattle.text.specs.Inner.{before, fitting, encoded_in, decoded_of, field_of, decoded_in};
 
 // What `decode` answers: how many bytes it wrote, or that it wrote none.
-#[derive(Drop)]
+#[derive(Clone, Copy)]
 pub enum Decoded {
     Bytes(usize),
     Refused,

@@ -5,7 +5,7 @@ ghost use Rattle.text.specs.Inner.{line_with, kept_with};
 
 // What a buffer keeps of a line: all the characters that the line has so far, this many, at its
 // front; or that the line is too long for it.
-#[derive(Drop)]
+#[derive(Clone, Copy)]
 pub enum Kept {
     Characters(usize),
     TooLong,

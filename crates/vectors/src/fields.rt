@@ -61,7 +61,7 @@ pub(crate) fn filled(line: &[u8], out: &mut [u8]) -> bool
 }
 
 // What `decode_two` answers: how many bytes each of the fields has, or that they are not understood.
-#[derive(Drop)]
+#[derive(Clone, Copy)]
 pub(crate) enum Two {
     Lengths(usize, usize),
     Refused,

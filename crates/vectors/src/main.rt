@@ -34,6 +34,7 @@
 // Those that lend bytes answer the call's number, 0 where it was done, a space, and all the lent bytes as the
 // call leaves them. In front of these, `ro` answers the place of the block that would not open, where
 // that is the reason, and the list as it is left, with a space behind each.
+#![tactic(auto)]
 mod batch;
 mod cipher;
 mod fields;

@@ -2,7 +2,7 @@
 -- Assumes nothing.
 use native.Mathlib.Omega.{arith}
 use borrow.Author.Rules.{rules}
-use borrow.Author.Tests.{le-leb, lt-leb, eq_eqb, ne_eqb}
+use borrow.Author.Tests.{le-leb, lt-leb, eq-eqb, ne_eqb}
 use Rattle.strings.proofs.Place.{copied_front}
 use Rattle.layout.specs.Inner.{fits}
 use Rattle.layout.proofs.Check.{plain_written}
@@ -39,7 +39,7 @@ returns-3 c =
       copied.copy.ensures.1,
       copied_front a.payload.now a.block.now (omega (arith, d1.if1.false, d2.if2.false)),
       le-leb _ 496 d1.if1.false,
-      eq_eqb _ 512 d2.if2.false,
+      eq-eqb _ 512 d2.if2.false,
     )
     (plain_written a.payload.now a.block.now a.pack a.place d1.if1.false d2.if2.false)
 

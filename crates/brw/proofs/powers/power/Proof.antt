@@ -1,7 +1,7 @@
 -- The two words of a number, and zero where there are none.
 -- Assumes nothing.
 use borrow.Author.Rules.{rules}
-use borrow.Author.Tests.{lt-ltb, le_ltb}
+use borrow.Author.Tests.{lt-ltb, le-ltb}
 use Rattle.blocks.specs.Inner.{value}
 use Rattle.brw.specs.Inner.{power_at}
 use Rattle.brw.proofs.powers.power.Statement.{statement}
@@ -34,7 +34,7 @@ returns c = rw (lt-ltb _ 8 c.before.before.if1.true)
 
 returns-2 : tie.Need-returns-2
 unfolding value power_at
-returns-2 c = rw (le_ltb _ 8 c.if1.false)
+returns-2 c = rw (le-ltb _ 8 c.if1.false)
 
 pub power-spec : {M : Type 1} → statement M
 power-spec =

@@ -1,7 +1,7 @@
 -- `E` and `D` are two calls of `hch`, whose answer and work make the reply; every other command is refused.
 -- Assumes nothing.
 use borrow.Author.Rules.{rules}
-use borrow.Author.Tests.{eq_eqb, ne_eqb}
+use borrow.Author.Tests.{eq-eqb, ne_eqb}
 use Rattle.hch.specs.Hch.{enciphered, deciphered}
 use Rattle.line.specs.Line.{commanded, reply_to}
 use Rattle.line.proofs.Written.{written_as, reply-called, call_fits}
@@ -32,7 +32,7 @@ returns c =
     let called = numbered.before.before.before in
     let chosen = called.before.before in
     let args = chosen.before.before.before.before.args in
-    rw (eq_eqb args.command 69 chosen.if1.true)
+    rw (eq-eqb args.command 69 chosen.if1.true)
     (written_as (reply-called called.encipher.result _ numbered.number.result _ (enciphered args.key.now args.tweak.now args.message.now) args.message.now called.encipher.ensures.0 numbered.number.ensures called.encipher.ensures.1.0)
     c.reply.ensures)
 
@@ -60,7 +60,7 @@ returns-2 c =
     let called = numbered.before.before.before in
     let chosen = called.before.before in
     let args = chosen.before.before.before.before.before.args in
-    rw (ne_eqb args.command 69 chosen.before.if1.false, eq_eqb args.command 68 chosen.if2.true)
+    rw (ne_eqb args.command 69 chosen.before.if1.false, eq-eqb args.command 68 chosen.if2.true)
     (written_as (reply-called called.decipher.result _ numbered.number2.result _ (deciphered args.key.now args.tweak.now args.message.now) args.message.now called.decipher.ensures.0 numbered.number2.ensures called.decipher.ensures.1.0)
     c.reply2.ensures)
 

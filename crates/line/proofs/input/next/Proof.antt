@@ -1,7 +1,7 @@
 -- The line goes on with what stands in front of the line feed, and is answered where one is found.
 -- Assumes nothing.
 use borrow.Author.Rules.{rules}
-use borrow.Author.Tests.{lt-ltb, le_ltb}
+use borrow.Author.Tests.{lt-ltb, le-ltb}
 use mathlib.Core.Path.{◌≡◌, refl}
 use Prim.Native.Nat.{◌-◌}
 use native.Mathlib.Nat.{sub-zero}
@@ -68,7 +68,7 @@ returns-2 c =
     let rest = appended.before.before.before.before.before.args.rest.now in
     let place = (lent appended).0 in
     let part = (lent appended).1 in
-    let ends = le_ltb (length (before 10 rest)) (length rest) (rw place at c.if1.false) in
+    let ends = le-ltb (length (before 10 rest)) (length rest) (rw place at c.if1.false) in
     record {
       used = rw ends (omega (arith, place, before_le 10 rest));
       keeps = rw ends (rw part at appended.append.ensures.0);

@@ -1,7 +1,7 @@
 -- The lengths are those that every scheme admits, so it does its work, and its contract says that it is a cipher.
 -- Assumes nothing.
 use borrow.Author.Rules.{rules}
-use borrow.Author.Tests.{eq_eqb, ne_eqb}
+use borrow.Author.Tests.{eq-eqb, ne_eqb}
 use Rattle.pack.specs.Inner.{on_block}
 use Rattle.pack.proofs.Admits.{by_contract}
 use Rattle.pack.proofs.cipher.decipher.Statement.{statement}
@@ -19,7 +19,7 @@ returns c =
     let told =
     by_contract a.pack a.place a.sealed.now size a.name a.expanded _ _
     (rw t.tweak.ensures at e.0) (rw t.tweak.ensures at e.1.0) (rw t.tweak.ensures at e.1.1) in
-    (rw (eq_eqb _ 512 size) told.0, λ l. told.1)
+    (rw (eq-eqb _ 512 size) told.0, λ l. told.1)
 
 returns-2 : tie.Need-returns-2
 unfolding on_block

@@ -4,7 +4,7 @@ use mathlib.Core.Path.{◌≡◌, sym, ap, ◌∙◌}
 use mathlib.Core.List.{[]}
 use mathlib.Core.Bool.{true, false}
 use borrow.Author.Rules.{rules}
-use borrow.Author.Tests.{eq_eqb}
+use borrow.Author.Tests.{eq-eqb}
 use lib.ListN.{length}
 use Rattle.strings.proofs.Refusals.{refusal-leaves}
 use Rattle.schemes.specs.Schemes.{scheme_under}
@@ -56,11 +56,11 @@ returns c =
     let B = deciphered_block S [] pack place C in
     let o : Openable S [] place C = record { is_key = every_key a.name a.expanded []; block-length = size; place_limit = start.requires.1 } in
     let cipher = d.decipher.ensures.1 size in
-    let plain : d.decipher.new.1.1.1.1.0 ≡ B = rw (d.decipher.ensures.0, eq_eqb (length C) 512 size) in
+    let plain : d.decipher.new.1.1.1.1.0 ≡ B = rw (d.decipher.ensures.0, eq-eqb (length C) 512 size) in
     let long : length B ≡ 512 = (cipher.inverse-keeps C (size, λ i. (known.slice-known.given i).fits)).0 in
     let failed = read_failed pack place B (sym told.enum_told.given.1 ∙ rw plain at read.read.ensures) in
     let left : again.encipher.new.1.1.1.1.0 ≡ C =
-    rw (again.encipher.ensures.0, plain, eq_eqb (length B) 512 long)
+    rw (again.encipher.ensures.0, plain, eq-eqb (length B) 512 long)
     (given_back S [] pack place cipher C (size, λ i. (known.slice-known.given i).fits)) in
     let why : c.failure.result ≡ failure C = rw left at c.failure.ensures in
     opens S [] pack place cipher C _ (Refused _) (λ i. (known.slice-known.given i).fits) (ap Refused why ∙ sym (by-check S [] pack place C o false failed))
@@ -86,7 +86,7 @@ returns-2 c =
     let B = deciphered_block S [] pack place C in
     let o : Openable S [] place C = record { is_key = every_key a.name a.expanded []; block-length = size; place_limit = start.requires.1 } in
     let cipher = d.decipher.ensures.1 size in
-    let plain : d.decipher.new.1.1.1.1.0 ≡ B = rw (d.decipher.ensures.0, eq_eqb (length C) 512 size) in
+    let plain : d.decipher.new.1.1.1.1.0 ≡ B = rw (d.decipher.ensures.0, eq-eqb (length C) 512 size) in
     let passed = read-passed pack place B verdict.0.0 (sym verdict.1 ∙ rw plain at read.read.ensures) in
     opens S [] pack place cipher C _ (Done _) (λ i. (known.slice-known.given i).fits) (rw passed.1 (sym (by-check S [] pack place C o true passed.0))) plain
 

@@ -5,7 +5,7 @@ use mathlib.Core.Path.{◌≡◌, sym, ap, ◌∙◌}
 use mathlib.Core.List.{List}
 use native.Mathlib.Omega.{arith}
 use borrow.Author.Rules.{rules}
-use borrow.Author.Tests.{eq_eqb}
+use borrow.Author.Tests.{eq-eqb}
 use Rattle.strings.specs.Call.{number_of}
 use Rattle.strings.specs.declared.refusal.Answer.{Answer}
 use Rattle.strings.specs.declared.refusal.Answer.TheVariants.{Done}
@@ -70,7 +70,7 @@ returns c =
     rw (written.write.ensures, both_fit payload a.block.now s.payload_length s.block-length) in
     let size = length_plain payload a.pack a.place s.payload_length in
     let left : work.encipher.new.1.1.1.1.0 ≡ sealedBy (scheme_of a.name) key payload a.pack a.place =
-    rw (work.encipher.ensures.0, plain, eq_eqb _ 512 size, same.enciphers) in
+    rw (work.encipher.ensures.0, plain, eq-eqb _ 512 size, same.enciphers) in
     let cipher = same-cipher same 16 512 (start.expand.ensures.1.1.1 512 (omega arith)) (tweak a.pack a.place) (tweak_of_length a.pack a.place) in
     (judged.judge.ensures, (rw (done, left), λ e. rw left (one_block (scheme_of a.name) key a.pack a.place cipher payload s.is_key limits)))
 

@@ -1,7 +1,7 @@
 -- At the first of Nk words, in the middle of eight, and elsewhere.
 -- Assumes nothing.
 use mathlib.Core.Bool.{and_false}
-use Rattle.std.proofs.Common.{arith, rules, le_ltb, lt-ltb, ne_eqb}
+use Rattle.std.proofs.Common.{arith, rules, le-ltb, lt-ltb, ne_eqb}
 use Rattle.strings.specs.Xor.{◌⊕◌}
 use Rattle.primitives.proofs.Words.{temp_place}
 use Rattle.primitives.proofs.aes.temp.Statement.{statement}
@@ -29,7 +29,7 @@ returns-2 : tie.Need-returns-2
 returns-2 c =
     let start = c.before.before.before in
     let a = start.args in
-    rw (temp_place a.nk a.place.j a.place.m a.before start.requires.3, ne_eqb a.place.m 0 c.before.if1.false, le_ltb 6 a.nk c.if2.true)
+    rw (temp_place a.nk a.place.j a.place.m a.before start.requires.3, ne_eqb a.place.m 0 c.before.if1.false, le-ltb 6 a.nk c.if2.true)
 
 returns-3 : tie.Need-returns-3
 returns-3 c =

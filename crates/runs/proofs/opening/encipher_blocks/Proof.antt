@@ -6,7 +6,7 @@ use mathlib.Core.List.{List, []}
 use native.Mathlib.Omega.{arith}
 use borrow.Author.Rules.{rules}
 use lib.ListN.{length}
-use borrow.Author.Tests.{eq_eqb}
+use borrow.Author.Tests.{eq-eqb}
 use Rattle.primitives.specs.declared.aes.ExpandedKey.{ExpandedKey}
 use Rattle.hch.specs.Expanded.{hch_under}
 use Rattle.layout.specs.Layout.{tweak}
@@ -75,7 +75,7 @@ loop-again c =
     let sized : (j : ℕ) → j < l.i → length (f j (part j run)) ≡ 512 =
     λ j h. enciphered-length (hch_under a.expanded) [] start.requires.0 a.pack a.first run (λ k. (known.slice-known.given k).fits) j (room j (omega (arith, h))) in (
       turn f run l.i sized (on_block (f l.i)) l.invariant.0 done.encipher.ensures.0
-          (rw (eq_eqb _ 512 (part_length l.i run (room l.i (omega arith))))),
+          (rw (eq-eqb _ 512 (part_length l.i run (room l.i (omega arith))))),
       c.before.run.given.1 ∙ l.invariant.1,
       omega (arith, c.before.run.given.1, done.before.before.loop-test.true),
     )

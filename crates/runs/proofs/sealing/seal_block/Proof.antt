@@ -4,7 +4,7 @@ use Prim.Native.Nat.{◌≤◌}
 use mathlib.Core.Path.{◌≡◌}
 use native.Mathlib.Omega.{arith}
 use borrow.Author.Rules.{rules}
-use borrow.Author.Tests.{eq_eqb}
+use borrow.Author.Tests.{eq-eqb}
 use lib.ListN.{length, take, length-take}
 use Rattle.layout.specs.Layout.{plain_block}
 use Rattle.layout.proofs.Check.{both_fit, length_plain}
@@ -33,7 +33,7 @@ returns c =
     let payload = take a.u B in
     let short : length payload ≤ 496 = rw length-take (omega (arith, start.requires.1)) in
     let plain : laid.complete.new.1.1.1.0 ≡ plain_block payload a.pack a.place = rw (laid.complete.ensures, both_fit payload B short start.requires.0) in
-    rw (work.encipher.ensures.0, plain, eq_eqb _ 512 (length_plain payload a.pack a.place short))
+    rw (work.encipher.ensures.0, plain, eq-eqb _ 512 (length_plain payload a.pack a.place short))
 
 pub seal-block-spec : {M : Type 1} → statement M
 seal-block-spec = tie.close (tie.spec complete-requires encipher-requires same_length returns)

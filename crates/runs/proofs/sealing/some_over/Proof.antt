@@ -3,7 +3,7 @@
 use Prim.Native.Nat.{◌-◌}
 use mathlib.Core.Path.{◌≡◌, refl, sym, ◌∙◌}
 use native.Mathlib.Omega.{arith}
-use borrow.Author.Tests.{lt-ltb, le_ltb}
+use borrow.Author.Tests.{lt-ltb, le-ltb}
 use lib.ListN.{length, drop, drop_of_length-le}
 use Rattle.runs.specs.Sealing.{some_over}
 use Rattle.runs.proofs.Lists.{over_from}
@@ -43,7 +43,7 @@ loop-again c =
     let turn = c.before.before in
     let l = turn.before.loop in
     let lengths = turn.before.before.args.lengths.now in
-    l.invariant ∙ over_from 496 lengths l.i turn.loop-test.true ∙ rw (le_ltb 496 _ c.if1.false)
+    l.invariant ∙ over_from 496 lengths l.i turn.loop-test.true ∙ rw (le-ltb 496 _ c.if1.false)
 
 returns-2 : tie.Need-returns-2 invariant-loop decreases-loop
 unfolding some_over

@@ -5,7 +5,7 @@ use mathlib.Core.Path.{◌≡◌, refl}
 use Prim.Native.Nat.{◌-◌}
 use native.Mathlib.Omega.{arith}
 use lib.ListN.{length, take}
-use borrow.Author.Tests.{lt-ltb, le_ltb}
+use borrow.Author.Tests.{lt-ltb, le-ltb}
 use Rattle.text.specs.Inner.{before, field_of, decoded_in}
 use Rattle.text.proofs.Parts.{before_index, before-take}
 use Rattle.text.proofs.hex.decode_field.Statement.{statement}
@@ -20,7 +20,7 @@ returns c =
     let a = c.before.before.before.before.args in
     let s = a.text.now in
     let place = before_index a.end s c.before.find.ensures.0 in
-    (simp (le_ltb (length (before a.end s)) (length s) (omega arith)), refl)
+    (simp (le-ltb (length (before a.end s)) (length s) (omega arith)), refl)
 
 sub-decode : tie.Need-overflow-sub-decode
 sub-decode c = omega arith

@@ -1,7 +1,7 @@
 -- `text::hex::digit_of` meets its contract: its test is that of `digit`.
 -- Assumes nothing.
 use borrow.Author.Rules.{rules}
-use borrow.Author.Tests.{lt-ltb, le_ltb}
+use borrow.Author.Tests.{lt-ltb, le-ltb}
 use Rattle.text.specs.Hex.{digit}
 use Rattle.text.proofs.hex.digit_of.Statement.{statement}
 use Rattle.text.proofs.hex.digit_of.Tie as tie
@@ -21,7 +21,7 @@ returns c = simp (lt-ltb _ _ c.if1.true)
 
 returns-2 : tie.Need-returns-2
 unfolding digit
-returns-2 c = simp (le_ltb _ _ c.if1.false)
+returns-2 c = simp (le-ltb _ _ c.if1.false)
 
 pub digit-of-spec : {M : Type 1} → statement M
 digit-of-spec = tie.close (tie.spec add-result sub-result add-result-2 returns returns-2)

@@ -6,7 +6,7 @@ use mathlib.Core.Bool.{true, false}
 use Prim.Native.Nat.{◌-◌, ◌%◌}
 use native.Mathlib.Omega.{arith}
 use lib.ListN.{length, drop, get_or, drop_of_length-le}
-use borrow.Author.Tests.{eq_eqb, ne_eqb, not-true, not_false}
+use borrow.Author.Tests.{eq-eqb, ne_eqb, not-true, not_false}
 use Rattle.text.specs.Hex.{is_digit, all_digits, is_hex}
 use Rattle.text.proofs.Digits.{digits_from}
 use Rattle.text.proofs.hex.is_hex.Statement.{statement}
@@ -38,7 +38,7 @@ returns-2 c =
     let s = at-loop.before.before.before.args.text.now in
     let i = at-loop.loop.i in
     let no : is_digit (get_or s i 0) ≡ false = sym c.before.is_digit.ensures ∙ not-true _ c.if2.true in
-    simp (eq_eqb _ _ at-loop.loop.invariant.0, at-loop.loop.invariant.1, digits_from s i c.before.before.before.loop-test.true, no)
+    simp (eq-eqb _ _ at-loop.loop.invariant.0, at-loop.loop.invariant.1, digits_from s i c.before.before.before.loop-test.true, no)
 
 add-i : tie.Need-overflow-add-i invariant-loop decreases-loop
 add-i c = omega arith
@@ -58,7 +58,7 @@ returns-3 : tie.Need-returns-3 invariant-loop decreases-loop
 unfolding is_hex all_digits
 returns-3 c =
     let s = c.before.before.before.before.args.text.now in
-    simp (eq_eqb _ _ c.before.loop.invariant.0, c.before.loop.invariant.1, drop_of_length-le s c.loop-test.false)
+    simp (eq-eqb _ _ c.before.loop.invariant.0, c.before.loop.invariant.1, drop_of_length-le s c.loop-test.false)
 
 pub is-hex-spec : {M : Type 1} → statement M
 is-hex-spec =
