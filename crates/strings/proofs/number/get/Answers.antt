@@ -1,14 +1,14 @@
 -- After i turns `value` is the number of the i bytes from `at` on, 0 past the end, cut to 64 digits.
 -- One byte more.
-use Prim.Native.Nat.{ℕ, ◌+◌, ◌-◌, ◌*◌, ◌%◌, ◌^◌, ◌≤◌, ◌<◌}
+use Prim.Native.Nat.{ℕ, ◌+◌, ◌*◌, ◌%◌, ◌^◌, ◌<◌}
 use mathlib.Core.Path.{◌≡◌, ◌∙◌}
-use mathlib.Core.Logic.{⊎_elim}
 use native.Mathlib.Omega.{arith}
 use lib.ListN.{get_or, drop, get_or-eq_default}
 use Rattle.strings.specs.Bytes.{number}
 use Rattle.strings.specs.Inner.{padded}
 use Rattle.strings.proofs.Place.{number-next}
 use Rattle.strings.proofs.number.get.Goals as goal
+use Rattle.strings.proofs.number.get.Goals.{then-i-there, else-i-there}
 
 -- One byte more.
 shifted : (N b : ℕ) → b < 256 → N % 2 ^ 64 * 2 ^ 8 % 2 ^ 64 + b ≡ (N * 256 + b) % 2 ^ 64
@@ -22,17 +22,17 @@ pub loop-i-preserved : goal.loop-i-preserved
 loop-i-preserved c =
     let l = c.loop-i in
     let left = c.left-there in
-    let known = c in
-    let a = known.args in
+    let a = c.args in
     let s = a.s.now in
     let b : ℕ = get_or s (a.at + l.i) 0 in
     let N : ℕ = number (padded l.i (drop a.at s)) in
     let next : l.value * 2 ^ 8 % 2 ^ 64 + b ≡ number (padded (l.i + 1) (drop a.at s)) % 2 ^ 64 =
-    rw (l.invariant.1, number-next l.i a.at s) (shifted N b (known.shared_slice_known-1.given (a.at + l.i)).fits) in (
+    rw (l.invariant.1, number-next l.i a.at s) (shifted N b (c.type_inv.s (a.at + l.i)).fits) in (
       omega arith,
-      elim c.if-i-there.branch [ then-i-there w ↦ ? | else-i-there w ↦ ? ]
-          (λ w.
-          let none : b ≡ 0 = get_or-eq_default s 0 (omega (arith, left.ensures, w.0.left-there)) in
-          omega (arith, next, w.1, none))
-          c.if-i-there.branch,
+      elim c.if-i-there.branch [
+        then-i-there w ↦ w.value-is ∙ next
+        | else-i-there w ↦
+          let none : b ≡ 0 = get_or-eq_default s 0 (omega (arith, left.ensures, w.if-i-there.false)) in
+          omega (arith, next, w.value-is, none)
+      ],
     )

@@ -1,15 +1,13 @@
 -- After each turn the last n - i bytes stand, and `rest` is what lies above them.
-use Prim.Native.Nat.{◌+◌, ◌-◌, ◌/◌, ◌%◌, ◌^◌, ◌≤◌}
+use Prim.Native.Nat.{◌+◌, ◌-◌, ◌%◌, ◌≤◌}
 use mathlib.Core.Path.{◌≡◌, sym, ◌∙◌}
-use mathlib.Core.Logic.{⊎_elim}
-use native.Mathlib.Nat.{sub-zero, add-zero}
 use native.Mathlib.Omega.{arith}
-use lib.ListN.{set}
+use lib.ListN.{length, set}
 use lib.Seq.{set_out}
 use Rattle.strings.specs.Bytes.{bytes}
-use Rattle.strings.specs.Inner.{overwrite}
 use Rattle.strings.proofs.Place.{overwrite_nil, overwrite-next, length-overwrite, rest-next}
 use Rattle.strings.proofs.number.put.Goals as goal
+use Rattle.strings.proofs.number.put.Goals.{then-i-there, else-i-there}
 
 pub loop-i-init : goal.loop-i-init
 unfolding bytes
@@ -27,7 +25,12 @@ loop-i-preserved c =
     let back : k + 1 ≡ a.at + l.i = omega arith in
     let more : a.n - (l.i - 1) ≡ a.n - l.i + 1 = omega arith in
     let stored : c.if-i-there.out ≡ set l.out k (l.rest % 256) =
-    ⊎_elim (λ w. w.1) (λ w. w.1 ∙ sym (set_out l.out k (l.rest % 256) rw (l.invariant.2, length-overwrite) (omega (arith, left.ensures, w.0.left-there)))) c.if-i-there.branch in (
+    elim c.if-i-there.branch [
+      then-i-there w ↦ w.out-is
+      | else-i-there w ↦
+        let past : length l.out ≤ k = rw (l.invariant.2, length-overwrite) (omega (arith, left.ensures, w.if-i-there.false)) in
+        w.out-is ∙ sym (set_out l.out k (l.rest % 256) past)
+    ] in (
       omega arith,
       rw (more, l.invariant.1, rest-next),
       rw (stored, more, l.invariant.1, l.invariant.2) (rw back at (overwrite-next k (a.n - l.i) a.value a.out.now)),
