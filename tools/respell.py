@@ -71,6 +71,14 @@ def functions():
     return found
 
 
+ALIAS = re.compile(r" as ([a-z][\w'-]*)")
+
+
+def aliases(text):
+    """Old names to new ones of what a file has under another name."""
+    return {name: snake(name.replace("-", "_")) for name in ALIAS.findall(text)}
+
+
 def table():
     """Old names to new ones: words in camel case first, since a lemma that would fall together with another name gets `_lem`."""
     names = {n for n in defined() - imported() if n[:1].isalpha() and not n[:1].isupper()}
@@ -99,7 +107,8 @@ def main():
         return 0
     for path in files():
         text = path.read_text()
-        turned = TOKEN.sub(lambda m: new_names.get(m[0], m[0]), text)
+        names = aliases(text) | new_names
+        turned = TOKEN.sub(lambda m: names.get(m[0], m[0]), text)
         if turned != text:
             path.write_text(turned)
     return 0

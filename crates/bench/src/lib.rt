@@ -1,5 +1,6 @@
 // What bench/ measures from C.
 #![tactic(auto)]
+
 ghost use Rattle.std.specs.Prelude.{◌≡◌};
 ghost use Rattle.strings.specs.Bytes.{bytes};
 ghost use Rattle.strings.specs.Inner.{overwrite};

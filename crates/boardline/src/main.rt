@@ -2,6 +2,7 @@
 // the app, and at the desk"). What a line is and what is answered is the crate `line`; here it is
 // read, handed over and written.
 #![tactic(auto)]
+
 ghost use Rattle.std.specs.Prelude.{◌≤◌, length};
 
 use libc::{STDERR_FILENO, STDIN_FILENO, STDOUT_FILENO};

@@ -1,10 +1,11 @@
 // The BRW polynomials of 02's Point 6, evaluated on the blocks of lent bytes, and the hash that is made of them.
 #![tactic(auto)]
+
 ghost use Rattle.std.specs.Prelude.{ℕ, ◌≤◌, ◌≡◌, length};
 ghost use Rattle.blocks.specs.Blocks.{blocks};
 ghost use Rattle.blocks.specs.BlockField.{◌·◌};
 ghost use Rattle.blocks.specs.Inner.{value};
-ghost use Rattle.brw.specs.Brw.{products, hash as hashOf};
+ghost use Rattle.brw.specs.Brw.{products, hash as hash_of};
 ghost use Rattle.brw.specs.Inner.{power_at, prepared, lent_polynomial};
 
 mod counting;
@@ -20,7 +21,7 @@ use primitives::field;
 pub fn hash(powers: &[u64; 16], s: &[u8]) -> Evaluation
     ensures value_value { value result.value ≡ power_at powers.now 0 · lent_polynomial powers.now (blocks s.now) }
     ensures products_value { result.products ≡ products (length (blocks s.now)) }
-    ensures by_index { (t n : ℕ) → ((i : ℕ) → power_at powers.now i ≡ prepared t n i) → length (blocks s.now) ≤ n → n ≤ 255 → value result.value ≡ hashOf t (blocks s.now) }
+    ensures by_index { (t n : ℕ) → ((i : ℕ) → power_at powers.now i ≡ prepared t n i) → length (blocks s.now) ≤ n → n ≤ 255 → value result.value ≡ hash_of t (blocks s.now) }
 {
     let polynomial = evaluation::evaluate(powers, s);
     Evaluation {

@@ -8,7 +8,7 @@ use lib.ListN.{length, length-drop}
 use borrow.Author.Tests.{ne_eqb, lt-ltb, le-ltb}
 use Rattle.strings.specs.Cipher.{Scheme}
 use Rattle.strings.specs.Call.{refusal_number, number_of, looks_at, left_by}
-use Rattle.strings.specs.Message.{tests as testsOfMessage}
+use Rattle.strings.specs.Message.{tests as tests_of_message}
 use Rattle.strings.specs.declared.refusal.Refusal.{Refusal}
 use Rattle.strings.specs.declared.refusal.Refusal.TheVariants.{TooShort}
 use Rattle.strings.proofs.Refusals.{refusal_range}
@@ -16,8 +16,8 @@ use Rattle.layout.proofs.Check.{zero-told, not_zero}
 use Rattle.primitives.specs.Aes.{is_key}
 use Rattle.hch.specs.Hch.{hch}
 use Rattle.hch.specs.Call.{tests}
-use Rattle.pack.specs.Sealing.{tests as testsOfSealing}
-use Rattle.pack.specs.Opening.{tests as testsOfOpening}
+use Rattle.pack.specs.Sealing.{tests as tests_of_sealing}
+use Rattle.pack.specs.Opening.{tests as tests_of_opening}
 use Rattle.line.specs.Line.{reply_to, answer}
 use Rattle.claims.specs.Demand1.{MessageNumbers, SealingNumbers, OpeningNumbers, Demand1}
 use Rattle.claims.proofs.Keys.{is_key, no_key}
@@ -30,7 +30,7 @@ refused-left (suc n) work lent h = refl
 -- Of sealing and opening by every scheme that takes AES's keys.
 module _ (S : Scheme) (keys : (key : List ℕ) → S.is_key key ≡ is_key key) where
   pub sealing_numbers : SealingNumbers S
-  unfolding testsOfSealing looks_at
+  unfolding tests_of_sealing looks_at
   sealing_numbers = record {
     seal_1 = λ key payload place block k. rw (keys key, no_key key k);
     seal_7 = λ key payload place block k b. rw (keys key, is_key key k, ne_eqb _ 512 b);
@@ -40,7 +40,7 @@ module _ (S : Scheme) (keys : (key : List ℕ) → S.is_key key ≡ is_key key) 
   }
 
   pub opening_numbers : OpeningNumbers S
-  unfolding testsOfOpening looks_at
+  unfolding tests_of_opening looks_at
   opening_numbers = record {
     open_1 = λ key pack place block k. rw (keys key, no_key key k);
     open_7 = λ key pack place block k b. rw (keys key, is_key key k, ne_eqb _ 512 b);
@@ -52,7 +52,7 @@ module _ (S : Scheme) (keys : (key : List ℕ) → S.is_key key ≡ is_key key) 
 
   -- And of the calls on messages.
   pub message_numbers : (least : ℕ) (short : Refusal) → least ≤ 4096
-      → MessageNumbers (λ key tweak message. number_of (looks_at (testsOfMessage S least short key tweak message))) least (refusal_number short)
+      → MessageNumbers (λ key tweak message. number_of (looks_at (tests_of_message S least short key tweak message))) least (refusal_number short)
   unfolding looks_at
   message_numbers least short l = record {
     message_1 = λ key tweak message k. rw (keys key, no_key key k);

@@ -12,7 +12,7 @@ use Rattle.layout.specs.Layout.{check, used, passes, is_zero}
 use Rattle.layout.specs.Finding.{is_pack, part}
 use Rattle.hch.specs.Hch.{hch}
 use Rattle.pack.specs.Opening.{number_of, values_of, deciphered_block, tests, answer_of, Unopened}
-use Rattle.runs.specs.Opening.{number_of as numberOfRun, values_of as valuesOfRun, in_turn, tests as testsOfRun, answer_of as answerOfRun}
+use Rattle.runs.specs.Opening.{number_of as number_of_run, values_of as values_of_run, in_turn, tests as tests_of_run, answer_of as answer_of_run}
 use Rattle.claims.specs.Demand1.{IsKey, of_opening}
 use Rattle.claims.specs.Point4.{zeros, damaged, unchanged, Point4}
 use Rattle.claims.proofs.Keys.{is_key}
@@ -36,12 +36,12 @@ one_byte : number_of (answer_of unchanged [] 1 0 damaged) ≡ 8
 unfolding tests looks_at deciphered_block passes used check is_zero equal number bytes
 one_byte = refl
 
-damaged-first : let answer = answerOfRun unchanged [] 1 3 (0 ∷ 0 ∷ []) (damaged ++ zeros) in (numberOfRun answer ≡ 8) × (valuesOfRun answer ≡ 3 ∷ [])
-unfolding testsOfRun is_pack part in_turn tests looks_at deciphered_block passes used check is_zero equal number bytes
+damaged-first : let answer = answer_of_run unchanged [] 1 3 (0 ∷ 0 ∷ []) (damaged ++ zeros) in (number_of_run answer ≡ 8) × (values_of_run answer ≡ 3 ∷ [])
+unfolding tests_of_run is_pack part in_turn tests looks_at deciphered_block passes used check is_zero equal number bytes
 damaged-first = (refl, refl)
 
-zeros-first : let answer = answerOfRun unchanged [] 1 3 (0 ∷ 0 ∷ []) (zeros ++ damaged) in (numberOfRun answer ≡ 12) × (valuesOfRun answer ≡ 3 ∷ [])
-unfolding testsOfRun is_pack part in_turn tests looks_at deciphered_block passes used check is_zero equal number bytes
+zeros-first : let answer = answer_of_run unchanged [] 1 3 (0 ∷ 0 ∷ []) (zeros ++ damaged) in (number_of_run answer ≡ 12) × (values_of_run answer ≡ 3 ∷ [])
+unfolding tests_of_run is_pack part in_turn tests looks_at deciphered_block passes used check is_zero equal number bytes
 zeros-first = (refl, refl)
 
 pub point_4 : Point4

@@ -13,7 +13,7 @@ use Rattle.strings.specs.declared.refusal.Refusal.TheVariants.{ForwardTooShort}
 use Rattle.blocks.specs.Blocks.{IsBlock}
 use Rattle.blocks.specs.BlockField.{times_x, ◌·◌}
 use Rattle.blocks.specs.Counter.{φ}
-use Rattle.blocks.specs.Field.{times01, times_x as timesXOver, power}
+use Rattle.blocks.specs.Field.{times01, times_x as times_xOver, power}
 use Rattle.blocks.proofs.Theorems as Blocks
 use Rattle.primitives.proofs.Theorems as Aes
 use Rattle.forward.specs.Forward.{enciphered_by, deciphered_by, enciphered, deciphered, forward, forward_by}
@@ -44,7 +44,7 @@ aes-block : (key payload : List ℕ) (pack place : ℕ) → IsKey key → Bytes 
 aes-block key payload pack place k b h l = (forward_pack key k).one_block payload pack place (record { payload_bytes = b; payload_length = h; place_limit = l })
 
 x_is : times_x 1 ≡ x
-unfolding timesXOver times01 ◌⊕◌
+unfolding times_xOver times01 ◌⊕◌
 x_is = refl
 
 primitive_element : (β i : ℕ) → IsBlock β → φ times_x β i ≡ power 1 ◌·◌ x i · β

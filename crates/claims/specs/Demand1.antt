@@ -9,8 +9,8 @@ use Rattle.strings.specs.declared.refusal.Answer.TheVariants.{Done, Refused}
 use Rattle.layout.specs.Layout.{used, passes}
 use Rattle.hch.specs.Hch.{behind_first, enciphered, deciphered, hch}
 use Rattle.hch.specs.Call.{answer_of}
-use Rattle.pack.specs.Sealing.{answer_of as answerOfSealing}
-use Rattle.pack.specs.Opening.{number_of as numberOfOpening, values_of as valuesOfOpening, deciphered_block, answer_of as answerOfOpening}
+use Rattle.pack.specs.Sealing.{answer_of as answer_of_sealing}
+use Rattle.pack.specs.Opening.{number_of as number_of_opening, values_of as values_of_opening, deciphered_block, answer_of as answer_of_opening}
 use Rattle.line.specs.Line.{Encipher, Decipher, Unknown, request_of, refusal, reply, answer}
 use Rattle.pack.specs.declared.opening.Opened.TheVariants.{Refused as NotOpened}
 
@@ -24,10 +24,10 @@ of_hch key tweak message = number_of (answer_of key tweak message)
 
 -- Sealing and opening are defined over the scheme S, and 01's are those of HCH.
 abbrev pub of_sealing : (S : Scheme) (key payload : List ℕ) (place : ℕ) (block : List ℕ) → ℕ
-of_sealing S key payload place block = number_of (answerOfSealing S key payload place block)
+of_sealing S key payload place block = number_of (answer_of_sealing S key payload place block)
 
 abbrev pub of_opening : (S : Scheme) (key : List ℕ) (pack place : ℕ) (block : List ℕ) → ℕ
-of_opening S key pack place block = numberOfOpening (answerOfOpening S key pack place block)
+of_opening S key pack place block = number_of_opening (answer_of_opening S key pack place block)
 
 -- "HCH looks at 1, 2, 3, 4 in this order", said of any scheme's calls on messages: `number` is theirs, `least` the length that a message has at least, and
 -- `short` the number for a shorter one. A number does not go by what is looked at after it.
@@ -77,7 +77,7 @@ pub record OpeningNumbers (S : Scheme) : Type 0 where
   -- Else the work is done, and u is returned beside the number.
   pub open_done : (key : List ℕ) (pack place : ℕ) (block : List ℕ) → IsKey key → length block ≡ 512 → place ≤ 65535
       → passes pack place (deciphered_block S key pack place block) ≡ true
-      → (of_opening S key pack place block ≡ 0) × (valuesOfOpening (answerOfOpening S key pack place block) ≡ used (deciphered_block S key pack place block) ∷ [])
+      → (of_opening S key pack place block ≡ 0) × (values_of_opening (answer_of_opening S key pack place block) ≡ used (deciphered_block S key pack place block) ∷ [])
 
 pub record Demand1 : Type 0 where
   -- ---- The numbers of HCH's calls, and of sealing and opening by HCH.
@@ -103,7 +103,7 @@ pub record Demand1 : Type 0 where
   pub refused-left : (number : ℕ) (work lent : List ℕ) → 0 < number → left_by number work lent ≡ lent
   -- A refusal is its number, and no value stands beside it, in the calls on messages and sealing and in opening.
   pub refused_alone : (why : Refusal) → (number_of (Refused why) ≡ refusal_number why) × (values_of (Refused why) ≡ [])
-  pub not_opened_alone : (why : Refusal) → (numberOfOpening (NotOpened why) ≡ refusal_number why) × (valuesOfOpening (NotOpened why) ≡ [])
+  pub not_opened_alone : (why : Refusal) → (number_of_opening (NotOpened why) ≡ refusal_number why) × (values_of_opening (NotOpened why) ≡ [])
   -- A call that was done leaves its work. The calls on messages and sealing then return nothing beside 0.
   pub done-left : (work lent : List ℕ) → left_by 0 work lent ≡ work
   pub done_alone : (number_of Done ≡ 0) × (values_of Done ≡ [])

@@ -6,11 +6,11 @@ use Rattle.strings.specs.One.{ExactlyOne, count}
 use Rattle.strings.specs.declared.refusal.Refusal.{Refusal}
 use Rattle.layout.specs.Finding.{block_count, part, with_part}
 use Rattle.hch.specs.Hch.{hch}
-use Rattle.pack.specs.Sealing.{seal, answer_of as answerOfBlockSealing}
-use Rattle.pack.specs.Opening.{number_of as numberOfBlock, values_of as valuesOfBlock, deciphered_block, answer_of as answerOfBlockOpening}
+use Rattle.pack.specs.Sealing.{seal, answer_of as answer_of_block_sealing}
+use Rattle.pack.specs.Opening.{number_of as number_of_block, values_of as values_of_block, deciphered_block, answer_of as answer_of_block_opening}
 use Rattle.runs.specs.Run.{one_by_one, OrderOf}
-use Rattle.runs.specs.Sealing.{sealed_run, answer_of as answerOfSealing}
-use Rattle.runs.specs.Opening.{number_of as numberOfOpening, values_of, failed_place, deciphered_run, used_lengths, lengths_of, answer_of as answerOfOpening, run_left, list_left, opens_to}
+use Rattle.runs.specs.Sealing.{sealed_run, answer_of as answer_of_sealing}
+use Rattle.runs.specs.Opening.{number_of as number_of_opening, values_of, failed_place, deciphered_run, used_lengths, lengths_of, answer_of as answer_of_opening, run_left, list_left, opens_to}
 use Rattle.runs.specs.Theorems.{Runs}
 use Rattle.runs.specs.declared.opening.RunOpened.TheVariants.{Done, Refused, Failed}
 use Rattle.claims.specs.Demand1.{IsKey}
@@ -18,13 +18,13 @@ use Rattle.claims.specs.Point1.{IsPack}
 
 -- The number of each call, and that of the one-block call for block i.
 abbrev pub of_sealing : (key : List ℕ) (first : ℕ) (lengths run : List ℕ) → ℕ
-of_sealing key first lengths run = number_of (answerOfSealing hch key first lengths run)
+of_sealing key first lengths run = number_of (answer_of_sealing hch key first lengths run)
 
 abbrev pub of_opening : (key : List ℕ) (pack first : ℕ) (lengths run : List ℕ) → ℕ
-of_opening key pack first lengths run = numberOfOpening (answerOfOpening hch key pack first lengths run)
+of_opening key pack first lengths run = number_of_opening (answer_of_opening hch key pack first lengths run)
 
 abbrev pub of_block : (key : List ℕ) (pack first : ℕ) (run : List ℕ) (i : ℕ) → ℕ
-of_block key pack first run i = numberOfBlock (answerOfBlockOpening hch key pack (first + i) (part i run))
+of_block key pack first run i = number_of_block (answer_of_block_opening hch key pack (first + i) (part i run))
 
 -- What is lent passes the tests up to number 11: a key, n blocks, and a list as long.
 abbrev pub Lent : (key : List ℕ) (n : ℕ) (lengths run : List ℕ) → Type 0
@@ -82,10 +82,10 @@ pub record Point2 : Type 0 where
   -- 8, or 12 by Point 4 of 02: a block will not open. "the answer adds the smallest failing place": one of the two and the place of block i are answered exactly if
   -- no payload seals to it and each block before it opens.
   pub open_8_or_12 : (key : List ℕ) (n pack first : ℕ) (lengths run : List ℕ) → Lent key n lengths run → Bytes run → first + n - 1 ≤ 65535 → (i : ℕ) → i < n
-      → (EightOrTwelve (of_opening key pack first lengths run) → values_of (answerOfOpening hch key pack first lengths run) ≡ (first + i) ∷ []
+      → (EightOrTwelve (of_opening key pack first lengths run) → values_of (answer_of_opening hch key pack first lengths run) ≡ (first + i) ∷ []
       → NoneSeals key pack first run i × EarlierOpen key pack first run i)
       × (NoneSeals key pack first run i → EarlierOpen key pack first run i
-      → EightOrTwelve (of_opening key pack first lengths run) × (values_of (answerOfOpening hch key pack first lengths run) ≡ (first + i) ∷ []))
+      → EightOrTwelve (of_opening key pack first lengths run) × (values_of (answer_of_opening hch key pack first lengths run) ≡ (first + i) ∷ []))
   -- Else the work is done: each block opens.
   pub open_done : (key : List ℕ) (n pack first : ℕ) (lengths run : List ℕ) → Lent key n lengths run → first + n - 1 ≤ 65535
       → ((i : ℕ) → i < n → of_block key pack first run i ≡ 0) → of_opening key pack first lengths run ≡ 0
@@ -101,22 +101,22 @@ pub record Point2 : Type 0 where
   pub an_order : OrderOf 3 (2 ∷ 0 ∷ 1 ∷ [])
   -- "each payload stands at the front of its block, as long as the list says": where sealing a run is done, sealing each payload into its block is.
   pub sealed-each : (key : List ℕ) (first : ℕ) (lengths run : List ℕ) → IsKey key → of_sealing key first lengths run ≡ 0 → (i : ℕ) → i < block_count run
-      → number_of (answerOfBlockSealing hch key (take (get_or lengths i 0) (part i run)) (first + i) (part i run)) ≡ 0
+      → number_of (answer_of_block_sealing hch key (take (get_or lengths i 0) (part i run)) (first + i) (part i run)) ≡ 0
   -- And the run is what these calls leave, in any order of the blocks.
   pub sealed-one-by-one : (key : List ℕ) (pack first : ℕ) (lengths run : List ℕ) → IsKey key → Bytes run
       → of_sealing key first lengths run ≡ 0 → (order : List ℕ) → OrderOf (block_count run) order
       → one_by_one (λ i B. let payload = take (get_or lengths i 0) B in
-      left_by (number_of (answerOfBlockSealing hch key payload (first + i) B)) (seal hch key payload pack (first + i)) B) order run
+      left_by (number_of (answer_of_block_sealing hch key payload (first + i) B)) (seal hch key payload pack (first + i)) B) order run
       ≡ sealed_run hch key pack first lengths run
   -- Where opening a run is done, opening each block is, and the list has the length that it returns.
   pub opened-each : (key : List ℕ) (pack first : ℕ) (lengths run : List ℕ) → IsKey key → Bytes run
       → of_opening key pack first lengths run ≡ 0 → (i : ℕ) → i < block_count run
       → (of_block key pack first run i ≡ 0)
-      × (valuesOfBlock (answerOfBlockOpening hch key pack (first + i) (part i run)) ≡ get_or (used_lengths hch key pack first run) i 0 ∷ [])
+      × (values_of_block (answer_of_block_opening hch key pack (first + i) (part i run)) ≡ get_or (used_lengths hch key pack first run) i 0 ∷ [])
   -- And the run is what these calls leave, in any order of the blocks.
   pub opened-one-by-one : (key : List ℕ) (pack first : ℕ) (lengths run : List ℕ) → IsKey key → Bytes run
       → of_opening key pack first lengths run ≡ 0 → (order : List ℕ) → OrderOf (block_count run) order
-      → one_by_one (λ i C. left_by (numberOfBlock (answerOfBlockOpening hch key pack (first + i) C)) (deciphered_block hch key pack (first + i) C) C) order run
+      → one_by_one (λ i C. left_by (number_of_block (answer_of_block_opening hch key pack (first + i) C)) (deciphered_block hch key pack (first + i) C) C) order run
       ≡ deciphered_run hch key pack first run
   -- ---- "If a run opens, and still opens after one block's bytes are changed, that change does not alter what the others open to."
   pub others_open : (key : List ℕ) (pack first : ℕ) (lengths run : List ℕ) → IsKey key → Bytes run → of_opening key pack first lengths run ≡ 0

@@ -8,9 +8,9 @@ use Rattle.layout.specs.Layout.{used, passes}
 use Rattle.layout.specs.Finding.{part}
 use Rattle.hch.specs.Hch.{hch}
 use Rattle.pack.specs.Opening.{number_of, values_of, deciphered_block, answer_of}
-use Rattle.runs.specs.Opening.{number_of as numberOfRun, values_of as valuesOfRun, answer_of as answerOfRun}
+use Rattle.runs.specs.Opening.{number_of as number_of_run, values_of as values_of_run, answer_of as answer_of_run}
 use Rattle.claims.specs.Demand1.{IsKey, of_opening}
-use Rattle.claims.specs.Point2.{of_opening as ofRun, of_block, Lent, EightOrTwelve, NoneSealsTo, NoneSeals, EarlierOpen}
+use Rattle.claims.specs.Point2.{of_opening as of_run, of_block, Lent, EightOrTwelve, NoneSealsTo, NoneSeals, EarlierOpen}
 
 -- 512 zeros; and for the examples, with a last byte of 1.
 abbrev pub zeros : List ℕ
@@ -42,21 +42,21 @@ pub record Point4 : Type 0 where
   -- A number m, not 0, and the place of block i are answered exactly if block i by itself is answered with m and each block before it opens.
   pub run_number : (key : List ℕ) (n pack first : ℕ) (lengths run : List ℕ) → Lent key n lengths run → Bytes run → first + n - 1 ≤ 65535 → (i : ℕ) → i < n
       → (m : ℕ) → 0 < m
-      → (ofRun key pack first lengths run ≡ m → valuesOfRun (answerOfRun hch key pack first lengths run) ≡ (first + i) ∷ []
+      → (of_run key pack first lengths run ≡ m → values_of_run (answer_of_run hch key pack first lengths run) ≡ (first + i) ∷ []
       → (of_block key pack first run i ≡ m) × EarlierOpen key pack first run i)
       × (of_block key pack first run i ≡ m → EarlierOpen key pack first run i
-      → (ofRun key pack first lengths run ≡ m) × (valuesOfRun (answerOfRun hch key pack first lengths run) ≡ (first + i) ∷ []))
+      → (of_run key pack first lengths run ≡ m) × (values_of_run (answer_of_run hch key pack first lengths run) ≡ (first + i) ∷ []))
   -- So 12 and the place of block i are answered exactly if, besides what Point2.antt says of 8 or 12, block i is zero.
   pub run_twelve : (key : List ℕ) (n pack first : ℕ) (lengths run : List ℕ) → Lent key n lengths run → Bytes run → first + n - 1 ≤ 65535 → (i : ℕ) → i < n
-      → (ofRun key pack first lengths run ≡ 12 → valuesOfRun (answerOfRun hch key pack first lengths run) ≡ (first + i) ∷ []
+      → (of_run key pack first lengths run ≡ 12 → values_of_run (answer_of_run hch key pack first lengths run) ≡ (first + i) ∷ []
       → NoneSeals key pack first run i × EarlierOpen key pack first run i × (part i run ≡ zeros))
       × (NoneSeals key pack first run i → EarlierOpen key pack first run i → part i run ≡ zeros
-      → (ofRun key pack first lengths run ≡ 12) × (valuesOfRun (answerOfRun hch key pack first lengths run) ≡ (first + i) ∷ []))
+      → (of_run key pack first lengths run ≡ 12) × (values_of_run (answer_of_run hch key pack first lengths run) ≡ (first + i) ∷ []))
   -- ---- Examples, with nothing enciphered. By 01's P13 zeros are the plain block of an empty payload, pack 0, place 0, and are opened; for pack 1 they are blank,
   -- and with a last byte of 1 they are answered with 8.
   pub zeros-opened : (number_of (answer_of unchanged [] 0 0 zeros) ≡ 0) × (values_of (answer_of unchanged [] 0 0 zeros) ≡ 0 ∷ [])
   pub zeros_blank : number_of (answer_of unchanged [] 1 0 zeros) ≡ 12
   pub one_byte : number_of (answer_of unchanged [] 1 0 damaged) ≡ 8
   -- Of a run of both, for the places 3 and 4, the first decides.
-  pub damaged-first : let answer = answerOfRun unchanged [] 1 3 (0 ∷ 0 ∷ []) (damaged ++ zeros) in (numberOfRun answer ≡ 8) × (valuesOfRun answer ≡ 3 ∷ [])
-  pub zeros-first : let answer = answerOfRun unchanged [] 1 3 (0 ∷ 0 ∷ []) (zeros ++ damaged) in (numberOfRun answer ≡ 12) × (valuesOfRun answer ≡ 3 ∷ [])
+  pub damaged-first : let answer = answer_of_run unchanged [] 1 3 (0 ∷ 0 ∷ []) (damaged ++ zeros) in (number_of_run answer ≡ 8) × (values_of_run answer ≡ 3 ∷ [])
+  pub zeros-first : let answer = answer_of_run unchanged [] 1 3 (0 ∷ 0 ∷ []) (zeros ++ damaged) in (number_of_run answer ≡ 12) × (values_of_run answer ≡ 3 ∷ [])

@@ -12,7 +12,7 @@ use Rattle.strings.specs.Inner.{overwrite}
 use Rattle.blocks.specs.Blocks.{IsBlock, first_block, blocks}
 use Rattle.blocks.specs.BlockField.{◌·◌, power_sum}
 use Rattle.blocks.specs.Counter.{masked_bytes}
-use Rattle.blocks.specs.Field.{power, power_sum as powerSumOver}
+use Rattle.blocks.specs.Field.{power, power_sum as power_sum_over}
 use Rattle.strings.proofs.Bytes.{length-bytes}
 use Rattle.strings.proofs.Xor.{xor-zero}
 use Rattle.strings.proofs.Place.{part-behind, put_back, overwrite-append, overwrite-front-part}
@@ -23,7 +23,7 @@ use Rattle.forward.specs.Inner.{bytes_of, mctr_bytes, from_m}
 
 -- The polynomial hash of one block.
 pub hash-one : (τ X : ℕ) → IsBlock τ → power_sum τ (X ∷ []) ≡ X · τ
-unfolding powerSumOver power
+unfolding power_sum_over power
 hash-one τ X h = rw (xor-zero, ring_of_blocks.one_right τ h)
 
 -- Two blocks written in front.

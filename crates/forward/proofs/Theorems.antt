@@ -13,7 +13,7 @@ use Rattle.strings.specs.Cipher.{Cipher, TweakableCipher, Same}
 use Rattle.blocks.specs.BlockCipher.{BlockCipher}
 use Rattle.blocks.specs.Blocks.{IsBlock, bin, pad, first_block, cut, blocks, string}
 use Rattle.blocks.specs.Counter.{masked, φ}
-use Rattle.blocks.specs.Field.{times01, times_x as timesXOver, product_n, product, power, power_sum as powerSumOver}
+use Rattle.blocks.specs.Field.{times01, times_x as times_xOver, product_n, product, power, power_sum as power_sum_over}
 use Rattle.blocks.specs.BlockField.{times_x, ◌·◌, power_sum}
 use Rattle.primitives.specs.Aes.{aes}
 use Rattle.primitives.specs.Expanded.{expanded_key, under}
@@ -58,7 +58,7 @@ same_expanded key k =
     record { takes = rw k; enciphers = ap enciphered_by same; deciphers = ap deciphered_by same }
 
 polynomial-hash : (τ : ℕ) (Xs : List ℕ) → IsBlock τ → Below (2 ^ 128) Xs → τ · Poly τ Xs ≡ power_sum τ Xs
-unfolding Poly powerSumOver power
+unfolding Poly power_sum_over power
 polynomial-hash τ [] hτ h = ring_of_blocks.zero_right τ
 polynomial-hash τ (X ∷ Xs) hτ h =
     let τⁿ : ℕ = power 1 ◌·◌ τ (length Xs) in
@@ -67,11 +67,11 @@ polynomial-hash τ (X ∷ Xs) hτ h =
     rw (ring_of_blocks.add_right τ (τⁿ · X) (Poly τ Xs), turned, polynomial-hash τ Xs hτ (λ i. h (suc i)))
 
 example_enciphered : encipher example_function times_x power_sum example_tweak example_plaintext ≡ example_ciphertext
-unfolding encipher KeyDef1 MCTR Υ Feistel φ masked blocks cut first_block pad string bin number bytes powerSumOver power product product_n timesXOver times01 ◌⊕◌
+unfolding encipher KeyDef1 MCTR Υ Feistel φ masked blocks cut first_block pad string bin number bytes power_sum_over power product product_n times_xOver times01 ◌⊕◌
 example_enciphered = refl
 
 example_deciphered : decipher example_function times_x power_sum example_tweak example_ciphertext ≡ example_plaintext
-unfolding decipher KeyDef1 MCTR Υ Feistel swapped_feistel φ masked blocks cut first_block pad string bin number bytes powerSumOver power product product_n timesXOver times01 ◌⊕◌
+unfolding decipher KeyDef1 MCTR Υ Feistel swapped_feistel φ masked blocks cut first_block pad string bin number bytes power_sum_over power product product_n times_xOver times01 ◌⊕◌
 example_deciphered = refl
 
 pub theorems : Theorems

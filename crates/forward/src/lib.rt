@@ -1,5 +1,6 @@
 // The encryption-only scheme of source document 000 over AES, on lent bytes. Only AES's encryption is used, both ways.
 #![tactic(auto)]
+
 ghost use Rattle.std.specs.Prelude.{ℕ, ◌*◌, ◌≤◌, ◌≡◌, true, [], length, drop};
 ghost use Rattle.strings.specs.Cipher.{TweakableCipher, Same};
 ghost use Rattle.strings.specs.Xor.{◌⊕◌};

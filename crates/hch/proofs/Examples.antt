@@ -10,7 +10,7 @@ use Rattle.strings.specs.Xor.{◌⊕◌}
 use Rattle.strings.specs.Bytes.{number}
 use Rattle.blocks.specs.Blocks.{bin, pad, first_block, cut, blocks}
 use Rattle.blocks.specs.BlockField.{◌·◌, power_sum}
-use Rattle.blocks.specs.Field.{power, power_sum as powerSumOver}
+use Rattle.blocks.specs.Field.{power, power_sum as power_sum_over}
 use Rattle.blocks.proofs.Ring.{ring_of_blocks}
 use Rattle.strings.proofs.Xor.{xor-zero}
 use Rattle.hch.specs.Hch.{length_block, behind_first, H}
@@ -29,7 +29,7 @@ p10 P h =
 
 -- H with R = 0 is Q xor A_1
 sum_of_zero : (As : List ℕ) → power_sum 0 As ≡ 0
-unfolding powerSumOver power
+unfolding power_sum_over power
 sum_of_zero [] = refl
 sum_of_zero (A ∷ As) =
     rw (ring_of_blocks.zero_left (power 1 ◌·◌ 0 (length As)), ring_of_blocks.zero_right A, sum_of_zero As, xor-zero)

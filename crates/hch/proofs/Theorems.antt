@@ -11,7 +11,7 @@ use lib.Seq.{take_all}
 use Rattle.strings.specs.Xor.{◌⊕◌}
 use Rattle.strings.specs.Bytes.{OfLength, number, bytes}
 use Rattle.blocks.specs.Blocks.{string, IsBlock}
-use Rattle.blocks.specs.Field.{power_sum as powerSumOver}
+use Rattle.blocks.specs.Field.{power_sum as power_sum_over}
 use Rattle.blocks.specs.BlockField.{times_x, power_sum}
 use Rattle.blocks.specs.Counter.{masked}
 use Rattle.strings.specs.One.{OnePreimage}
@@ -67,7 +67,7 @@ same_expanded key k =
 
 one_block : (E times_x : ℕ → ℕ) (T : ℕ) (P : List ℕ) → length P ≡ 16
     → let Q = E (E T ⊕ length_block 16) in encipher E times_x power_sum T P ≡ bytes 16 (times_x Q ⊕ E (number P ⊕ Q))
-unfolding encipher H Ctr masked string powerSumOver
+unfolding encipher H Ctr masked string power_sum_over
 one_block E step T P h =
     let Q : ℕ = E (E T ⊕ length_block 16) in
     let short : length P ≤ 16 = omega (arith, h) in

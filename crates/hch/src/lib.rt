@@ -1,5 +1,6 @@
 // HCH of Chakraborty and Sarkar over AES, on lent bytes.
 #![tactic(auto)]
+
 ghost use Rattle.std.specs.Prelude.{ℕ, ◌≤◌, ◌≡◌, true, [], length};
 ghost use Rattle.strings.specs.Cipher.{TweakableCipher, Same};
 ghost use Rattle.strings.specs.Xor.{◌⊕◌};
@@ -8,7 +9,7 @@ ghost use Rattle.blocks.specs.BlockField.{times_x, power_sum};
 ghost use Rattle.blocks.specs.Inner.{value};
 ghost use Rattle.primitives.specs.Expanded.{expanded_key, under};
 ghost use Rattle.strings.specs.Call.{number_of, looks_at, left_by};
-ghost use Rattle.hch.specs.Hch.{length_block, behind_first, H as polynomialHash, encipher, decipher, enciphered, deciphered, hch as scheme};
+ghost use Rattle.hch.specs.Hch.{length_block, behind_first, H as polynomial_hash, encipher, decipher, enciphered, deciphered, hch as scheme};
 ghost use Rattle.hch.specs.Inner.{from_i};
 ghost use Rattle.hch.specs.Call.{tests_behind_key, answer_of, answer_behind_key, IsCipher, OnePlaintext};
 ghost use Rattle.hch.specs.Expanded.{hch_under, IsCipherUnder};
@@ -54,7 +55,7 @@ fn hash_q(expanded: ExpandedKey, r: Block, length: usize) -> Block
 // Formula (1): the first block by itself, the others where they stand in `message`, behind the first 16 bytes.
 fn hash(r: Block, q: Block, first: Block, message: &[u8]) -> Block
     requires { 16 ≤ length message.now }
-    ensures { value result ≡ polynomialHash power_sum (value r) (value q) (value first) (blocks (behind_first message.now)) }
+    ensures { value result ≡ polynomial_hash power_sum (value r) (value q) (value first) (blocks (behind_first message.now)) }
 {
     q.xor(first).xor(field::power_sum(r, &message[16..]))
 }

@@ -1,9 +1,10 @@
 // The plain block of 512 bytes and its tweak, as 01 lays them out, a block of zeros, and where a block stands in a pack, on lent bytes. Nothing here knows of a cipher.
 #![tactic(auto)]
+
 ghost use Rattle.std.specs.Prelude.{◌+◌, ◌≤◌, ◌≡◌, cond, eqb, length, take, drop};
 ghost use Rattle.strings.specs.Bytes.{bytes, equal};
 ghost use Rattle.strings.specs.Inner.{overwrite};
-ghost use Rattle.layout.specs.Layout.{check, plain_block, tweak as tweakOf, used as usedOf, passes as passesCheck, is_zero};
+ghost use Rattle.layout.specs.Layout.{check, plain_block, tweak as tweak_of, used as used_of, passes as passes_check, is_zero};
 ghost use Rattle.layout.specs.Inner.{fits, verdict_of};
 
 mod finding;
@@ -75,7 +76,7 @@ pub fn complete(u: usize, pack: u64, place: u32, block: &mut [u8])
 
 // The tweak of a pack and a place.
 pub fn tweak(pack: u64, place: u32) -> [u8; 16]
-    ensures { result ≡ tweakOf pack place }
+    ensures { result ≡ tweak_of pack place }
 {
     let mut t = [0u8; 16];
     number::put(&mut t, 0, 8, pack);
@@ -86,7 +87,7 @@ pub fn tweak(pack: u64, place: u32) -> [u8; 16]
 // u, where it stands in a plain block.
 fn used(block: &[u8]) -> usize
     requires { length block.now ≡ 512 }
-    ensures { result ≡ usedOf block.now }
+    ensures { result ≡ used_of block.now }
 {
     number::get(block, 508, 2) as usize
 }
@@ -94,7 +95,7 @@ fn used(block: &[u8]) -> usize
 // Whether a block passes its check.
 fn passes(pack: u64, place: u32, block: &[u8]) -> bool
     requires { length block.now ≡ 512 }
-    ensures { result ≡ passesCheck pack place block.now }
+    ensures { result ≡ passes_check pack place block.now }
 {
     let u = used(block);
     if u > 496 {

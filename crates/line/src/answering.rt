@@ -2,7 +2,7 @@
 ghost use Rattle.std.specs.Prelude.{◌≤◌, ◌<◌, ◌≡◌, [], ◌∷◌, length};
 ghost use Rattle.text.specs.Hex.{hex};
 ghost use Rattle.text.specs.Part.{split};
-ghost use Rattle.line.specs.Line.{commanded, requested, refusal, reply as replyOf, reply_to, answer as answer_of, Written};
+ghost use Rattle.line.specs.Line.{commanded, requested, refusal, reply as reply_of, reply_to, answer as answer_of, Written};
 
 use crate::{LONGEST, ROOM};
 use text::hex::Decoded;
@@ -86,7 +86,7 @@ fn run(command: u8, key: &[u8], tweak: &[u8], message: &mut [u8], out: &mut [u8;
 fn reply(number: u32, left: &[u8], out: &mut [u8; ROOM]) -> usize
     requires number_bound { number < 100 }
     requires left_len_bound { number ≡ 0 → length left.now ≤ 4096 }
-    ensures { Written (replyOf number left.now) result out.old out.new }
+    ensures { Written (reply_of number left.now) result out.old out.new }
 {
     if number > 0 {
         return refuse(number, out);

@@ -1,6 +1,7 @@
 // The lines of `boardline` on lent slices: one line and its answer, and the lines of an input that
 // arrives in chunks.
 #![tactic(auto)]
+
 mod answering;
 mod input;
 

@@ -11,7 +11,7 @@ use lib.Dec.{eqb}
 use lib.ListN.{length, get_or, take, drop}
 use lib.Seq.{length-take-le}
 use Rattle.strings.specs.Bytes.{Bytes, OfLength, equal}
-use Rattle.strings.specs.Call.{number_of as numberOfTests, looks_at, left_by}
+use Rattle.strings.specs.Call.{number_of as number_of_tests, looks_at, left_by}
 use Rattle.strings.specs.Cipher.{Scheme}
 use Rattle.strings.specs.declared.refusal.Answer.{Answer}
 use Rattle.strings.specs.declared.refusal.Answer.TheVariants.{Done as NoTestHolds, Refused as FirstIs}
@@ -23,7 +23,7 @@ use Rattle.strings.proofs.One.{one-string}
 use Rattle.strings.proofs.Refusals.{none_holds, all_passed, refused_early, not_false, refusal-leaves, refused-some}
 use Rattle.layout.specs.Layout.{plain_block, tweak, used, payload_of, passes, is_zero}
 use Rattle.layout.proofs.Check.{plain_of_length, used_plain, take_plain, passes_plain, passes-only, zero-only, zero-told}
-use Rattle.pack.specs.Sealing.{seal, WithinLimits, tests as testsOfSealing, answer_of as answerOfSealing}
+use Rattle.pack.specs.Sealing.{seal, WithinLimits, tests as tests_of_sealing, answer_of as answer_of_sealing}
 use Rattle.pack.specs.Opening.{number_of, values_of, returning, failure, deciphered_block, tests, answer_of, opens_to, OneBlock, NoPayload, Unopened, UnopenedMeaning, Meaning}
 use Rattle.pack.specs.Inner.{CipherAt, Opens}
 use Rattle.pack.specs.declared.opening.Opened.{Opened}
@@ -32,7 +32,7 @@ use Rattle.pack.specs.declared.opening.Opened.TheVariants.{Done, Refused}
 -- ---- what an answer tells of the tests
 
 -- The number is that of the tests.
-number_returned : (u : ℕ) (a : Answer) → number_of (returning u a) ≡ numberOfTests a
+number_returned : (u : ℕ) (a : Answer) → number_of (returning u a) ≡ number_of_tests a
 number_returned u NoTestHolds = refl
 number_returned u (FirstIs why) = refl
 
@@ -43,11 +43,11 @@ pub record Sealable (S : Scheme) (key payload : List ℕ) (place : ℕ) (block :
   pub payload_length : length payload ≤ 496
   pub place_limit : place ≤ 65535
 
-pub sealable : (S : Scheme) (key payload : List ℕ) (place : ℕ) (block : List ℕ) → numberOfTests (answerOfSealing S key payload place block) ≡ 0
+pub sealable : (S : Scheme) (key payload : List ℕ) (place : ℕ) (block : List ℕ) → number_of_tests (answer_of_sealing S key payload place block) ≡ 0
     → Sealable S key payload place block
-unfolding testsOfSealing
+unfolding tests_of_sealing
 sealable S key payload place block e =
-    let t = none_holds (testsOfSealing S key payload place block) e in
+    let t = none_holds (tests_of_sealing S key payload place block) e in
     record {
       is_key_lem = not_false _ t.0;
       block-length = eqb-true (length block) 512 (not_false _ t.1.0);
@@ -78,7 +78,7 @@ module _ (S : Scheme) (key : List ℕ) (pack place : ℕ) (C : List ℕ) where
   pub openable : looks_at (take 2 (drop 1 (tests S key pack place C))) ≡ NoTestHolds → (length C ≡ 512) × (place ≤ 65535)
   unfolding tests
   openable e =
-      let t = none_holds (take 2 (drop 1 (tests S key pack place C))) (ap numberOfTests e) in
+      let t = none_holds (take 2 (drop 1 (tests S key pack place C))) (ap number_of_tests e) in
       (eqb-true (length C) 512 (not_false _ t.0), ltb-false 65535 place t.1.0)
 
   behind-key : S.is_key key ≡ true → looks_at (take 3 (tests S key pack place C)) ≡ looks_at (take 2 (drop 1 (tests S key pack place C)))
@@ -100,7 +100,7 @@ module _ (S : Scheme) (key : List ℕ) (pack place : ℕ) (C : List ℕ) where
           used-limit = λ z. absurd (refused-some refused z);
           sealed = λ z. absurd (refused-some refused z);
           one_block = λ z. absurd (refused-some refused z);
-          unopened = λ k h l. absurd (refused-some e (ap numberOfTests (passed (record { is_key_lem = k; block-length = h; place_limit = l }))));
+          unopened = λ k h l. absurd (refused-some e (ap number_of_tests (passed (record { is_key_lem = k; block-length = h; place_limit = l }))));
         };
       }
 
@@ -113,7 +113,7 @@ module _ (S : Scheme) (key : List ℕ) (pack place : ℕ) (C : List ℕ) where
       → Opens S key pack place C (Refused why) C
   refused-behind k e = refused-first (behind-key k ∙ e)
 
-  by_tests : number_of (answer_of S key pack place C) ≡ numberOfTests (looks_at (tests S key pack place C))
+  by_tests : number_of (answer_of S key pack place C) ≡ number_of_tests (looks_at (tests S key pack place C))
   by_tests = number_returned (used (deciphered_block S key pack place C)) (looks_at (tests S key pack place C))
 
   admitted : number_of (answer_of S key pack place C) ≡ 0 → Admitted

@@ -5,7 +5,7 @@ ghost use Rattle.strings.specs.Cipher.{Scheme};
 ghost use Rattle.hch.specs.Hch.{hch as scheme};
 ghost use Rattle.forward.specs.Forward.{forward};
 ghost use Rattle.schemes.specs.Schemes.{scheme_of, scheme_under};
-ghost use Rattle.pack.specs.Opening.{number_of, failure as failureOf, deciphered_block, tests, answer_of, Meaning};
+ghost use Rattle.pack.specs.Opening.{number_of, failure as failure_of, deciphered_block, tests, answer_of, Meaning};
 ghost use Rattle.pack.specs.Inner.{Opens};
 
 use crate::cipher;
@@ -44,7 +44,7 @@ fn judge(place: u32, block: &[u8]) -> Answer
 
 // Why a block that fails its check is refused, by its lent bytes.
 fn failure(block: &[u8]) -> Refusal
-    ensures { result ≡ failureOf block.now }
+    ensures { result ≡ failure_of block.now }
 {
     if layout::is_zero(block) {
         return Refusal::Blank;

@@ -1,5 +1,6 @@
 // The field of 2^128 elements and AES, on blocks.
 #![tactic(auto)]
+
 pub mod aes;
 pub mod field;
 mod inv_mixing;

@@ -13,7 +13,7 @@ use Rattle.strings.specs.declared.refusal.Refusal.{Refusal}
 use Rattle.strings.proofs.Refusals.{refusal_range, refusal-leaves}
 use Rattle.layout.specs.Finding.{part}
 use Rattle.layout.proofs.Parts.{before_or_from}
-use Rattle.pack.specs.Opening.{number_of as numberOfBlock, answer_of as answerOfBlock}
+use Rattle.pack.specs.Opening.{number_of as number_of_block, answer_of as answer_of_block}
 use Rattle.pack.specs.declared.opening.Opened.{Opened}
 use Rattle.pack.specs.declared.opening.Opened.TheVariants.{Done as BlockOpened, Refused as BlockRefused}
 use Rattle.runs.specs.Opening.{number_of, values_of, next, in_turn, BlockOpens, EarlierOpen}
@@ -22,7 +22,7 @@ use Rattle.runs.specs.declared.opening.RunOpened.{RunOpened}
 use Rattle.runs.specs.declared.opening.RunOpened.TheVariants.{Done, Failed}
 
 -- A block that is refused comes back as it was lent.
-pub left_back : {r : Opened} {why : Refusal} → r ≡ BlockRefused why → (work lent : List ℕ) → left_by (numberOfBlock r) work lent ≡ lent
+pub left_back : {r : Opened} {why : Refusal} → r ≡ BlockRefused why → (work lent : List ℕ) → left_by (number_of_block r) work lent ≡ lent
 left_back {r} {why} e work lent = rw e (sym (refusal-leaves why work lent))
 
 module _ (S : Scheme) (key : List ℕ) (pack first : ℕ) (run : List ℕ) where
@@ -32,18 +32,18 @@ module _ (S : Scheme) (key : List ℕ) (pack first : ℕ) (run : List ℕ) where
     pub why : Refusal
     pub there : block < n
     pub before : EarlierOpen S key pack first run block
-    pub refused : answerOfBlock S key pack (first + block) (part block run) ≡ BlockRefused why
+    pub refused : answer_of_block S key pack (first + block) (part block run) ≡ BlockRefused why
     pub answered : in_turn S key pack first n run ≡ Failed why (first + block)
 
   pub record AllOpen (n : ℕ) : Type 0 where
     pub each : EarlierOpen S key pack first run n
     pub answered : in_turn S key pack first n run ≡ Done
 
-  one_more : (n : ℕ) → AllOpen n → (r : Opened) → answerOfBlock S key pack (first + n) (part n run) ≡ r → AllOpen (suc n) ⊎ FailsAt (suc n)
+  one_more : (n : ℕ) → AllOpen n → (r : Opened) → answer_of_block S key pack (first + n) (part n run) ≡ r → AllOpen (suc n) ⊎ FailsAt (suc n)
   unfolding in_turn
   one_more n all (BlockOpened u) e =
       inl (record {
-        each = λ i h. below_more (BlockOpens S key pack first run) n all.each (ap numberOfBlock e) i (omega (arith, h));
+        each = λ i h. below_more (BlockOpens S key pack first run) n all.each (ap number_of_block e) i (omega (arith, h));
         answered = rw (all.answered, e);
       })
   one_more n all (BlockRefused why) e =
@@ -58,11 +58,11 @@ module _ (S : Scheme) (key : List ℕ) (pack first : ℕ) (run : List ℕ) where
   unfolding in_turn
   in_turn_lem zero = inl (record { each = λ i h. absurd (omega (arith, h)); answered = refl })
   in_turn_lem (suc n) =
-      ⊎_elim (λ (all : AllOpen n). one_more n all (answerOfBlock S key pack (first + n) (part n run)) refl) (λ (f : FailsAt n). inr (stays n f)) (in_turn_lem n)
+      ⊎_elim (λ (all : AllOpen n). one_more n all (answer_of_block S key pack (first + n) (part n run)) refl) (λ (f : FailsAt n). inr (stays n f)) (in_turn_lem n)
 
   -- A block that is refused does not open.
-  refused-shut : {why : Refusal} (i : ℕ) → answerOfBlock S key pack (first + i) (part i run) ≡ BlockRefused why → BlockOpens S key pack first run i → ⊥
-  refused-shut {why} i e opens = omega (arith, (refusal_range why).0, sym (ap numberOfBlock e) ∙ opens)
+  refused-shut : {why : Refusal} (i : ℕ) → answer_of_block S key pack (first + i) (part i run) ≡ BlockRefused why → BlockOpens S key pack first run i → ⊥
+  refused-shut {why} i e opens = omega (arith, (refusal_range why).0, sym (ap number_of_block e) ∙ opens)
 
   -- Where all open, the answer says so, and the other way round.
   pub all-open : (n : ℕ) → EarlierOpen S key pack first run n → in_turn S key pack first n run ≡ Done
@@ -81,7 +81,7 @@ module _ (S : Scheme) (key : List ℕ) (pack first : ℕ) (run : List ℕ) where
       (λ from. ⊎_elim (λ (e : f.block ≡ i). e) (λ (less : f.block < i). absurd (refused-shut f.block f.refused (before f.block less))) (eq-or-lt_of_le from))
 
   pub first-refused : (n i : ℕ) {why : Refusal} → i < n → EarlierOpen S key pack first run i
-      → answerOfBlock S key pack (first + i) (part i run) ≡ BlockRefused why → in_turn S key pack first n run ≡ Failed why (first + i)
+      → answer_of_block S key pack (first + i) (part i run) ≡ BlockRefused why → in_turn S key pack first n run ≡ Failed why (first + i)
   first-refused n i {why} h before e =
       ⊎_elim (λ (all : AllOpen n). absurd (refused-shut i e (all.each i h)))
       (λ (f : FailsAt n).

@@ -7,7 +7,7 @@ use mathlib.Core.List.{List}
 use native.Mathlib.Omega.{arith}
 use borrow.Author.Tests.{eqb-true, ltb-false, eq-eqb, le-ltb}
 use lib.ListN.{length}
-use Rattle.strings.specs.Call.{number_of as numberOfTests, looks_at}
+use Rattle.strings.specs.Call.{number_of as number_of_tests, looks_at}
 use Rattle.strings.specs.Cipher.{Scheme}
 use Rattle.strings.specs.declared.refusal.Answer.{Answer}
 use Rattle.strings.specs.declared.refusal.Answer.TheVariants.{Done as NoTestHolds, Refused as FirstIs}
@@ -15,14 +15,14 @@ use Rattle.strings.proofs.Refusals.{refusal_range, none_holds, all_passed, not_f
 use Rattle.layout.specs.Finding.{block_count, is_pack}
 use Rattle.layout.proofs.Parts.{is_pack_lem, whole-blocks}
 use Rattle.runs.specs.Run.{last_place}
-use Rattle.runs.specs.Sealing.{some_over, tests as testsOfSealing, answer_of as answerOfSealing}
+use Rattle.runs.specs.Sealing.{some_over, tests as tests_of_sealing, answer_of as answer_of_sealing}
 use Rattle.runs.specs.Opening.{number_of, after, tests}
 use Rattle.runs.specs.Inner.{InRange}
 use Rattle.runs.specs.declared.opening.RunOpened.{RunOpened}
 
 -- ---- the number
 
-pub both-done : (a : Answer) (r : RunOpened) → number_of (after a r) ≡ 0 → (numberOfTests a ≡ 0) × (number_of r ≡ 0)
+pub both-done : (a : Answer) (r : RunOpened) → number_of (after a r) ≡ 0 → (number_of_tests a ≡ 0) × (number_of r ≡ 0)
 both-done NoTestHolds r e = (refl, e)
 both-done (FirstIs why) r e = absurd (omega (arith, (refusal_range why).0, e))
 
@@ -35,10 +35,10 @@ module _ (S : Scheme) (key : List ℕ) (first : ℕ) (lengths run : List ℕ) wh
     pub list_length : length lengths ≡ block_count run
     pub last_place_lem : last_place first run ≤ 65535
 
-  pub sealable : numberOfTests (answerOfSealing S key first lengths run) ≡ 0 → Admitted × (some_over 496 lengths ≡ false)
-  unfolding testsOfSealing
+  pub sealable : number_of_tests (answer_of_sealing S key first lengths run) ≡ 0 → Admitted × (some_over 496 lengths ≡ false)
+  unfolding tests_of_sealing
   sealable e =
-      let t = none_holds (testsOfSealing S key first lengths run) e in (
+      let t = none_holds (tests_of_sealing S key first lengths run) e in (
         record {
           is_key_lem = not_false _ t.0;
           is_run = not_false _ t.1.0;
@@ -48,7 +48,7 @@ module _ (S : Scheme) (key : List ℕ) (first : ℕ) (lengths run : List ℕ) wh
         t.1.1.1.0,
       )
 
-  pub openable : numberOfTests (looks_at (tests S key first lengths run)) ≡ 0 → Admitted
+  pub openable : number_of_tests (looks_at (tests S key first lengths run)) ≡ 0 → Admitted
   unfolding tests
   openable e =
       let t = none_holds (tests S key first lengths run) e in

@@ -10,7 +10,7 @@ use native.Mathlib.Omega.{arith}
 use lib.ListN.{get_or, take}
 use lib.Seq.{take_all}
 use Rattle.strings.specs.Bytes.{Bytes}
-use Rattle.strings.specs.Call.{refusal_number, number_of as numberOfTests, looks_at, left_by}
+use Rattle.strings.specs.Call.{refusal_number, number_of as number_of_tests, looks_at, left_by}
 use Rattle.strings.specs.Cipher.{TweakableCipher, Scheme}
 use Rattle.strings.specs.declared.refusal.Answer.TheVariants.{Refused as FirstIs}
 use Rattle.strings.specs.declared.refusal.Refusal.{Refusal}
@@ -19,8 +19,8 @@ use Rattle.layout.specs.Layout.{used, payload_of}
 use Rattle.layout.specs.Finding.{block_count, part}
 use Rattle.layout.proofs.Parts.{is_pack_lem, whole-blocks}
 use Rattle.pack.specs.Sealing.{seal}
-use Rattle.pack.specs.Opening.{number_of as numberOfBlock, deciphered_block, Unopened as BlockUnopened}
-use Rattle.pack.proofs.OneBlock.{FromPayload, opened-from, unopened as block-unopened}
+use Rattle.pack.specs.Opening.{number_of as number_of_block, deciphered_block, Unopened as BlockUnopened}
+use Rattle.pack.proofs.OneBlock.{FromPayload, opened-from, unopened as block_unopened}
 use Rattle.runs.specs.Run.{blockwise}
 use Rattle.runs.specs.Sealing.{some_over, payload_at, sealed_run}
 use Rattle.runs.specs.Opening.{number_of, values_of, deciphered_run, used_lengths, in_turn, tests, answer_of, OneRun, block_number, BlockOpens, NumberAt, FirstNumber, Unopened, UnopenedMeaning, Meaning}
@@ -50,7 +50,7 @@ module _ (S : Scheme) (key : List ℕ) (cipher : TweakableCipher 16 512 (S.encip
         let place : first + f.block ≡ first + i = ap (λ (l : List ℕ). get_or l 0 0) (sym (ap values_of told) ∙ e.1) in
         let same : f.block ≡ i = omega (arith, place) in
         let number : refusal_number f.why ≡ n = sym (ap number_of told) ∙ e.0 in
-        let refused : block_number S key pack first run i ≡ n = rw same at (ap numberOfBlock f.refused ∙ number) in
+        let refused : block_number S key pack first run i ≡ n = rw same at (ap number_of_block f.refused ∙ number) in
         (refused, rw same at f.before)) (in_turn_lem S key pack first run count)
 
     number-answered : (n : ℕ) → 0 < n → FirstNumber S n key pack first run i → NumberAt (answer_of S key pack first lengths run) n first i
@@ -61,13 +61,13 @@ module _ (S : Scheme) (key : List ℕ) (cipher : TweakableCipher 16 512 (S.encip
         (λ (f : FailsAt S key pack first run count).
         let same = same_block S key pack first run count f i shut e.1 in
         let told = by_blocks ∙ f.answered in
-        let number : refusal_number f.why ≡ n = sym (ap numberOfBlock f.refused) ∙ rw same e.0 in
+        let number : refusal_number f.why ≡ n = sym (ap number_of_block f.refused) ∙ rw same e.0 in
         (ap number_of told ∙ number, ap values_of told ∙ ap (λ (k : ℕ). (first + k) ∷ []) same)) (in_turn_lem S key pack first run count)
 
     of_block_lem : BlockUnopened S (block_number S key pack first run i) key pack (first + i) (part i run)
     of_block_lem =
         let p = part_of_length i run b (omega (arith, h)) in
-        block-unopened S key pack (first + i) (at S key cipher pack first (first + i)) (part i run) p.1 a.is_key p.0 (omega (arith, (in_range S key first lengths run a).places, h))
+        block_unopened S key pack (first + i) (at S key cipher pack first (first + i)) (part i run) p.1 a.is_key p.0 (omega (arith, (in_range S key first lengths run a).places, h))
 
     at_block : Unopened S (answer_of S key pack first lengths run) key pack first run i
     at_block =
@@ -186,5 +186,5 @@ module _ (S : Scheme) (key : List ℕ) (pack first : ℕ) (lengths run : List �
         one_run = λ z. absurd (some z);
         unopened = λ k whole list last i h.
             let a : Admitted S key first lengths run = record { is_key = k; is_run = whole; list_length = list; last_place_lem = last } in
-            absurd (some (ap numberOfTests (sym e ∙ no_test_holds S key first lengths run a)));
+            absurd (some (ap number_of_tests (sym e ∙ no_test_holds S key first lengths run a)));
       }

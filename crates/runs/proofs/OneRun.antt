@@ -10,7 +10,7 @@ use lib.Dec.{eqb}
 use lib.ListN.{length, get_or, take, drop, replicate, length-replicate, length-drop, length-take}
 use lib.Seq.{take_all, get_or-take, ext_get_or}
 use Rattle.strings.specs.Bytes.{OfLength, Bytes, equal}
-use Rattle.strings.specs.Call.{number_of as numberOfTests, looks_at, left_by}
+use Rattle.strings.specs.Call.{number_of as number_of_tests, looks_at, left_by}
 use Rattle.strings.specs.Cipher.{TweakableCipher, Scheme}
 use Rattle.strings.specs.One.{OneString}
 use Rattle.strings.proofs.Bytes.{below-take}
@@ -20,10 +20,10 @@ use Rattle.layout.specs.Layout.{used}
 use Rattle.layout.specs.Finding.{block_count, part}
 use Rattle.layout.proofs.Parts.{is_pack_lem, part_length, get_d_part, count_of, pack_of}
 use Rattle.pack.specs.Sealing.{seal, WithinLimits as BlockWithinLimits}
-use Rattle.pack.specs.Opening.{deciphered_block, opens_to as blockOpensTo}
+use Rattle.pack.specs.Opening.{deciphered_block, opens_to as block_opens_to}
 use Rattle.pack.proofs.OneBlock.{OpenedTo, opened_to, opens_to_lem, one_block}
 use Rattle.runs.specs.Run.{blockwise}
-use Rattle.runs.specs.Sealing.{payload_at, sealed_run, answer_of as answerOfSealing}
+use Rattle.runs.specs.Sealing.{payload_at, sealed_run, answer_of as answer_of_sealing}
 use Rattle.runs.specs.Opening.{number_of, deciphered_run, used_lengths, in_turn, tests, answer_of, lengths_of, begin_with, opens_to, OneRun}
 use Rattle.runs.specs.Theorems.{WithinLimits}
 use Rattle.runs.specs.declared.opening.RunOpened.TheVariants.{Done}
@@ -76,7 +76,7 @@ module _ (S : Scheme) (key : List ℕ) (cipher : TweakableCipher 16 512 (S.encip
   -- ---- n tests of n parts
 
   abbrev block-test : ℕ → List ℕ → Bool
-  block-test i B = blockOpensTo S key (payload i) pack (first + i) B
+  block-test i B = block_opens_to S key (payload i) pack (first + i) B
 
   unfoldable opens_each : ℕ → List ℕ → Bool
   opens_each zero u = true
@@ -164,7 +164,7 @@ module _ (S : Scheme) (key : List ℕ) (cipher : TweakableCipher 16 512 (S.encip
 
 -- What sealing writes, where it was done.
 pub sealed-one : (S : Scheme) (key : List ℕ) → TweakableCipher 16 512 (S.encipher key) (S.decipher key) → (pack first : ℕ) (lengths run : List ℕ) → Bytes run
-    → numberOfTests (answerOfSealing S key first lengths run) ≡ 0
+    → number_of_tests (answer_of_sealing S key first lengths run) ≡ 0
     → OneRun S key (block_count run) (payload_at lengths run) pack first (sealed_run S key pack first lengths run)
 unfolding sealed_run
 sealed-one S key cipher pack first lengths run b e =

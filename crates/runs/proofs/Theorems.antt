@@ -9,25 +9,25 @@ use borrow.Author.Tests.{eq-eqb, le-ltb}
 use lib.ListN.{length, get_or, take, drop, replicate, length-take, length-append, length-replicate}
 use lib.Seq.{take_at}
 use Rattle.strings.specs.Bytes.{Bytes}
-use Rattle.strings.specs.Call.{number_of as numberOfSealing}
+use Rattle.strings.specs.Call.{number_of as number_of_sealing}
 use Rattle.strings.specs.Cipher.{TweakableCipher, Scheme}
 use Rattle.strings.specs.declared.refusal.Answer.TheVariants.{Done as NoTestHolds}
 use Rattle.strings.proofs.Bytes.{below-append, below-take, below-drop}
 use Rattle.strings.proofs.Refusals.{all_passed}
 use Rattle.layout.specs.Finding.{block_count, part, with_part}
 use Rattle.layout.proofs.Parts.{part_length, with_length, part_with_other, count_of, whole-blocks}
-use Rattle.pack.specs.Sealing.{seal, tests as testsOfBlockSealing, answer_of as answerOfBlockSealing}
-use Rattle.pack.specs.Opening.{number_of as numberOfBlock, values_of as valuesOfBlock, deciphered_block, answer_of as answerOfBlock}
+use Rattle.pack.specs.Sealing.{seal, tests as tests_of_block_sealing, answer_of as answer_of_block_sealing}
+use Rattle.pack.specs.Opening.{number_of as number_of_block, values_of as values_of_block, deciphered_block, answer_of as answer_of_block}
 use Rattle.pack.proofs.OneBlock.{opened-answer}
 use Rattle.runs.specs.Run.{one_by_one, OrderOf}
-use Rattle.runs.specs.Sealing.{payload_at, sealed_run, answer_of as answerOfSealing}
+use Rattle.runs.specs.Sealing.{payload_at, sealed_run, answer_of as answer_of_sealing}
 use Rattle.runs.specs.Opening.{number_of, deciphered_run, used_lengths, answer_of, lengths_of, OneRun}
 use Rattle.runs.specs.Theorems.{sealing_call, opening_call, WithinLimits, Holds, laid_out, Runs, Theorems}
 use Rattle.runs.proofs.Blocks.{length-blockwise, part-blockwise, blockwise-same}
 use Rattle.runs.proofs.Limits.{sealable, in_range}
 use Rattle.runs.proofs.Lists.{none_over}
 use Rattle.runs.proofs.Meaning.{known, opens, unopened}
-use Rattle.runs.proofs.OneRun.{get_d_lengths, one_run as one-of-payloads}
+use Rattle.runs.proofs.OneRun.{get_d_lengths, one_run as one_of_payloads}
 use Rattle.runs.proofs.Orders.{in_any_order}
 use Rattle.runs.proofs.Sizes.{sealed-length, deciphered_of_length, deciphered-part, used-part}
 
@@ -40,9 +40,9 @@ bytes_with i block run hb hr =
 module _ (S : Scheme) (key : List ℕ) (k : S.is_key key ≡ true) (cipher : TweakableCipher 16 512 (S.encipher key) (S.decipher key)) where
   -- ---- as the one-block calls
 
-  module _ (first : ℕ) (lengths run : List ℕ) (e : numberOfSealing (answerOfSealing S key first lengths run) ≡ 0) where
-    seals-block : (i : ℕ) → i < block_count run → answerOfBlockSealing S key (payload_at lengths run i) (first + i) (part i run) ≡ NoTestHolds
-    unfolding testsOfBlockSealing
+  module _ (first : ℕ) (lengths run : List ℕ) (e : number_of_sealing (answer_of_sealing S key first lengths run) ≡ 0) where
+    seals-block : (i : ℕ) → i < block_count run → answer_of_block_sealing S key (payload_at lengths run i) (first + i) (part i run) ≡ NoTestHolds
+    unfolding tests_of_block_sealing
     seals-block i h =
         let s = sealable S key first lengths run e in
         let payload = payload_at lengths run i in
@@ -63,7 +63,7 @@ module _ (S : Scheme) (key : List ℕ) (k : S.is_key key ≡ true) (cipher : Twe
         ∙ blockwise-same (sealing_call S key pack first lengths) (λ i B. seal S key (take (get_or lengths i 0) B) pack (first + i)) (block_count run) run run work
 
   module _ (pack first : ℕ) (lengths run : List ℕ) (b : Bytes run) (e : number_of (answer_of S key pack first lengths run) ≡ 0) where
-    opens-block : (i : ℕ) → i < block_count run → numberOfBlock (answerOfBlock S key pack (first + i) (part i run)) ≡ 0
+    opens-block : (i : ℕ) → i < block_count run → number_of_block (answer_of_block S key pack (first + i) (part i run)) ≡ 0
     opens-block = opens S key cipher pack first run b lengths e
 
     opened-one-by-one : (order : List ℕ) → OrderOf (block_count run) order → one_by_one (opening_call S key pack first) order run ≡ deciphered_run S key pack first run
@@ -104,15 +104,15 @@ module _ (S : Scheme) (key : List ℕ) (k : S.is_key key ≡ true) (cipher : Twe
         blockwise-same (λ i B. seal S key (take (get_or (lengths_of payload n) i 0) B) pack (first + i)) (λ i B. seal S key (payload i) pack (first + i)) n run run
             (λ i h. rw (get_d_lengths payload n i h, held.in_front i h)),
       )
-      (one-of-payloads S key cipher k pack first payload n w run)
+      (one_of_payloads S key cipher k pack first payload n w run)
 
 any_cipher : (S : Scheme) (key : List ℕ) → S.is_key key ≡ true → TweakableCipher 16 512 (S.encipher key) (S.decipher key) → Runs S key
 any_cipher S key k cipher = record {
-  sealed-each = λ first lengths run e i h. ap numberOfSealing (seals-block S key k cipher first lengths run e i h);
+  sealed-each = λ first lengths run e i h. ap number_of_sealing (seals-block S key k cipher first lengths run e i h);
   sealed-one-by-one = λ pack first lengths run b e. sealed-one-by-one S key k cipher first lengths run e pack b;
   opened-each = λ pack first lengths run b e i h.
       let opened = opens-block S key k cipher pack first lengths run b e i h in
-      (opened, ap valuesOfBlock (opened-answer S key pack (first + i) (part i run) opened) ∙ ap (λ (u : ℕ). u ∷ []) (sym (used-part S key cipher pack first run b i h)));
+      (opened, ap values_of_block (opened-answer S key pack (first + i) (part i run) opened) ∙ ap (λ (u : ℕ). u ∷ []) (sym (used-part S key cipher pack first run b i h)));
   opened-one-by-one = λ pack first lengths run b e. opened-one-by-one S key k cipher pack first lengths run b e;
   others_open = λ pack first lengths run b e i block h long hb e' j l apart. rw (e, e') (others_open S key k cipher pack first run b i block h long hb j l apart);
   one_run = one_run S key k cipher;

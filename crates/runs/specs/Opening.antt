@@ -9,7 +9,7 @@ use Rattle.strings.specs.declared.refusal.Answer.TheVariants.{Done as NoTestHold
 use Rattle.strings.specs.declared.refusal.Refusal.TheVariants.{KeyLength, PlaceTooHigh, PackLength, ListLength}
 use Rattle.layout.specs.Layout.{used}
 use Rattle.layout.specs.Finding.{block_count, is_pack, part}
-use Rattle.pack.specs.Opening.{number_of as numberOfBlock, deciphered_block, answer_of as answerOfBlock, NoPayload}
+use Rattle.pack.specs.Opening.{number_of as number_of_block, deciphered_block, answer_of as answer_of_block, NoPayload}
 use Rattle.pack.specs.declared.opening.Opened.{Opened}
 use Rattle.pack.specs.declared.opening.Opened.TheVariants.{Done as BlockOpened, Refused as BlockRefused}
 use Rattle.runs.specs.Run.{blockwise, last_place}
@@ -71,7 +71,7 @@ module _ (S : Scheme) where
   -- The first n blocks, opened in turn by the one-block call.
   unfoldable pub in_turn : (key : List ℕ) (pack first n : ℕ) (run : List ℕ) → RunOpened
   in_turn key pack first zero run = Done
-  in_turn key pack first (suc n) run = next (in_turn key pack first n run) (answerOfBlock S key pack (first + n) (part n run)) (first + n)
+  in_turn key pack first (suc n) run = next (in_turn key pack first n run) (answer_of_block S key pack (first + n) (part n run)) (first + n)
 
   -- 02, "opening at 1, 10, 11, 6, 8": 8, and 12 in its place, is that of a block.
   unfoldable pub tests : (key : List ℕ) (first : ℕ) (lengths run : List ℕ) → Tests
@@ -106,7 +106,7 @@ module _ (S : Scheme) where
 
   -- The number that the one-block call answers for block i; that it opens it; and that it opens each block before block i.
   abbrev pub block_number : (key : List ℕ) (pack first : ℕ) (run : List ℕ) (i : ℕ) → ℕ
-  block_number key pack first run i = numberOfBlock (answerOfBlock S key pack (first + i) (part i run))
+  block_number key pack first run i = number_of_block (answer_of_block S key pack (first + i) (part i run))
 
   abbrev pub BlockOpens : (key : List ℕ) (pack first : ℕ) (run : List ℕ) (i : ℕ) → Type 0
   BlockOpens key pack first run i = block_number key pack first run i ≡ 0

@@ -1,5 +1,6 @@
 // Runs of 512-byte blocks: n payloads sealed for n places in turn, and opened again, in one call.
 #![tactic(auto)]
+
 mod opening;
 mod sealing;
 

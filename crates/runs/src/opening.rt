@@ -3,7 +3,7 @@ ghost use Rattle.std.specs.Prelude.{◌+◌, ◌*◌, ◌≡◌, [], ◌∷◌, 
 ghost use Rattle.strings.specs.Call.{looks_at, left_by};
 ghost use Rattle.hch.specs.Hch.{hch as scheme};
 ghost use Rattle.hch.specs.Expanded.{hch_under};
-ghost use Rattle.layout.specs.Layout.{used, tweak as tweakOf};
+ghost use Rattle.layout.specs.Layout.{used, tweak as tweak_of};
 ghost use Rattle.layout.specs.Finding.{block_count};
 ghost use Rattle.runs.specs.Run.{blockwise};
 ghost use Rattle.runs.specs.Opening.{number_of, deciphered_run, used_lengths, tests, answer_of, Meaning};
@@ -54,7 +54,7 @@ fn judge(key: &[u8], first: u32, lengths: &[u16], run: &[u8]) -> Answer
 // Enciphers opened blocks again, which gives the lent bytes back.
 fn encipher_blocks(expanded: ExpandedKey, pack: u64, first: u32, run: &mut [u8])
     requires { CipherUnder expanded × InRange first run.old }
-    ensures { run.new ≡ blockwise (λ i B. (hch_under expanded).encipher [] (tweakOf pack (first + i)) B) (block_count run.old) run.old }
+    ensures { run.new ≡ blockwise (λ i B. (hch_under expanded).encipher [] (tweak_of pack (first + i)) B) (block_count run.old) run.old }
 {
     let mut i = 0;
     while i < run.len() / 512 {

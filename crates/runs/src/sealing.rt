@@ -4,7 +4,7 @@ ghost use Rattle.strings.specs.Call.{number_of, looks_at, left_by};
 ghost use Rattle.hch.specs.Hch.{hch as scheme};
 ghost use Rattle.hch.specs.Expanded.{hch_under};
 ghost use Rattle.layout.specs.Finding.{block_count};
-ghost use Rattle.pack.specs.Sealing.{seal as sealedBy};
+ghost use Rattle.pack.specs.Sealing.{seal as sealed_by};
 ghost use Rattle.runs.specs.Sealing.{some_over, payload_at, sealed_run, tests, answer_of};
 ghost use Rattle.runs.specs.Opening.{OneRun};
 ghost use Rattle.runs.specs.Inner.{CipherUnder, Sealable};
@@ -49,7 +49,7 @@ fn judge(key: &[u8], first: u32, lengths: &[u16], run: &[u8]) -> Answer
 // Seals the payload of u bytes that a block begins with.
 fn seal_block(expanded: ExpandedKey, u: usize, pack: u64, place: u32, block: &mut [u8])
     requires { (length block.old ≡ 512) × (u ≤ 496) }
-    ensures { block.new ≡ sealedBy (hch_under expanded) [] (take u block.old) pack place }
+    ensures { block.new ≡ sealed_by (hch_under expanded) [] (take u block.old) pack place }
 {
     layout::complete(u, pack, place, block);
     pack::cipher::encipher(SchemeName::Hch, expanded, pack, place, block);

@@ -1,5 +1,6 @@
 // The schemes by name: one value says which of them is used, so that what stands above them is written once.
 #![tactic(auto)]
+
 ghost use Rattle.std.specs.Prelude.{ℕ, ◌≤◌, ◌≡◌, true, [], length};
 ghost use Rattle.strings.specs.Cipher.{TweakableCipher, Same};
 ghost use Rattle.strings.specs.Call.{number_of, left_by};

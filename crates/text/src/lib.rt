@@ -1,4 +1,5 @@
 // Text on lent slices of bytes: lower-case hexadecimal both ways, and the collecting of lines.
 #![tactic(auto)]
+
 pub mod hex;
 pub mod part;

@@ -35,6 +35,7 @@
 // call leaves them. In front of these, `ro` answers the place of the block that would not open, where
 // that is the reason, and the list as it is left, with a space behind each.
 #![tactic(auto)]
+
 mod batch;
 mod cipher;
 mod fields;

@@ -8,7 +8,7 @@ use borrow.Author.Tests.{lt-leb}
 use lib.Dec.{eqb}
 use lib.ListN.{take, drop}
 use Rattle.strings.specs.Bytes.{bytes, equal}
-use Rattle.layout.specs.Layout.{used as usedOf, passes as passesCheck}
+use Rattle.layout.specs.Layout.{used as used_of, passes as passes_check}
 use Rattle.layout.proofs.Comparison.{none_of_four}
 use Rattle.layout.proofs.Check.{passes-parts}
 use Rattle.layout.proofs.passes.Statement.{statement}
@@ -18,10 +18,10 @@ used-requires : tie.Need-used-requires
 used-requires c κs = search rules
 
 returns : tie.Need-returns
-unfolding passesCheck
+unfolding passes_check
 returns c =
     let B = c.before.before.before.args.block.now in
-    rw (lt-leb (usedOf B) 496 (omega (arith, c.before.used.ensures, c.if1.true)))
+    rw (lt-leb (used_of B) 496 (omega (arith, c.before.used.ensures, c.if1.true)))
 
 difference-requires : tie.Need-difference-requires
 difference-requires c κs = search rules

@@ -3,7 +3,7 @@
 use borrow.Author.Rules.{rules}
 use Rattle.strings.specs.Bytes.{bytes}
 use Rattle.strings.specs.Inner.{overwrite}
-use Rattle.layout.specs.Layout.{tweak as tweakOf}
+use Rattle.layout.specs.Layout.{tweak as tweak_of}
 use Rattle.layout.proofs.tweak.Statement.{statement}
 use Rattle.layout.proofs.tweak.Tie as tie
 
@@ -20,7 +20,7 @@ put-requires-2 : tie.Need-put-requires-2
 put-requires-2 c κs = search rules
 
 returns : tie.Need-returns
-unfolding tweakOf bytes overwrite
+unfolding tweak_of bytes overwrite
 returns c = rw (c.before.put2.ensures, c.before.before.before.before.put.ensures)
 
 pub tweak-spec : {M : Type 1} → statement M

@@ -15,7 +15,7 @@ use Rattle.schemes.specs.declared.SchemeName.{SchemeName}
 use Rattle.layout.specs.Layout.{plain_block, tweak}
 use Rattle.layout.proofs.Check.{both_fit, length_plain, tweak_of_length}
 use Rattle.pack.specs.Inner.{on_block}
-use Rattle.pack.specs.Sealing.{seal as sealedBy, WithinLimits, answer_of}
+use Rattle.pack.specs.Sealing.{seal as sealed_by, WithinLimits, answer_of}
 use Rattle.pack.proofs.OneBlock.{Sealable, sealable, one_block}
 use Rattle.pack.proofs.Same.{same-cipher}
 use Rattle.pack.proofs.sealing.seal_by.Statement.{statement}
@@ -48,7 +48,7 @@ same_length : tie.Need-same-length
 same_length c = search rules
 
 returns : tie.Need-returns
-unfolding sealedBy on_block
+unfolding sealed_by on_block
 returns c =
     let work = c.before.before in
     let written = work.before.before.before.before in
@@ -69,7 +69,7 @@ returns c =
     let plain : written.write.new.1.1.1.0 ≡ plain_block payload a.pack a.place =
     rw (written.write.ensures, both_fit payload a.block.now s.payload_length s.block-length) in
     let size = length_plain payload a.pack a.place s.payload_length in
-    let left : work.encipher.new.1.1.1.1.0 ≡ sealedBy (scheme_of a.name) key payload a.pack a.place =
+    let left : work.encipher.new.1.1.1.1.0 ≡ sealed_by (scheme_of a.name) key payload a.pack a.place =
     rw (work.encipher.ensures.0, plain, eq-eqb _ 512 size, same.enciphers) in
     let cipher = same-cipher same 16 512 (start.expand.ensures.1.1.1 512 (omega arith)) (tweak a.pack a.place) (tweak_of_length a.pack a.place) in
     (judged.judge.ensures, (rw (done, left), λ e. rw left (one_block (scheme_of a.name) key a.pack a.place cipher payload s.is_key limits)))

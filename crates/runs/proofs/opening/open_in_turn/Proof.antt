@@ -10,7 +10,7 @@ use Rattle.strings.specs.Bytes.{Bytes}
 use Rattle.primitives.specs.declared.aes.ExpandedKey.{ExpandedKey}
 use Rattle.hch.specs.Expanded.{hch_under}
 use Rattle.layout.specs.Finding.{block_count, part}
-use Rattle.pack.specs.Opening.{number_of as numberOfBlock, deciphered_block, answer_of as answerOfBlock}
+use Rattle.pack.specs.Opening.{number_of as number_of_block, deciphered_block, answer_of as answer_of_block}
 use Rattle.runs.specs.Opening.{BlockOpens, EarlierOpen}
 use Rattle.runs.specs.Inner.{CipherUnder, walked}
 use Rattle.runs.proofs.Blocks.{walked_none, walked_block, turn, part_same, below_more}
@@ -85,7 +85,7 @@ returns c =
     let f = one a.expanded a.pack a.first in
     let below : l.i < block_count run = omega (arith, l.invariant.2, at_turn.loop-test.true) in
     let lent = next-block a.expanded a.pack a.first run start.requires.0 (λ k. (known.slice-known.given k).fits) l.i below l.invariant.0 in
-    let shut = ap (answerOfBlock S [] a.pack (a.first + l.i)) (sym lent) ∙ sym done.open-with.ensures.0 ∙ refused in
+    let shut = ap (answer_of_block S [] a.pack (a.first + l.i)) (sym lent) ∙ sym done.open-with.ensures.0 ∙ refused in
     let back : done.open-with.new.1.1.1.1.0 ≡ take (512 * l.i + 512 - 512 * l.i) (drop (512 * l.i) l.run) =
     done.open-with.ensures.1.0 ∙ left_back refused _ _ in
     record {
@@ -117,9 +117,9 @@ loop-again c =
     let bytes : Bytes run = λ k. (known.slice-known.given k).fits in
     let below : l.i < block_count run = omega (arith, l.invariant.2, at_turn.loop-test.true) in
     let lent = next-block a.expanded a.pack a.first run start.requires.0 bytes l.i below l.invariant.0 in
-    let opened = ap numberOfBlock c.enum_told.given.1 in
+    let opened = ap number_of_block c.enum_told.given.1 in
     let opens : BlockOpens S [] a.pack a.first run l.i =
-    ap (λ (C : List ℕ). numberOfBlock (answerOfBlock S [] a.pack (a.first + l.i) C)) (sym lent) ∙ sym (ap numberOfBlock done.open-with.ensures.0) ∙ opened in
+    ap (λ (C : List ℕ). number_of_block (answer_of_block S [] a.pack (a.first + l.i) C)) (sym lent) ∙ sym (ap number_of_block done.open-with.ensures.0) ∙ opened in
     let whole = c.before.before.before.run.given.1 in (
       turn f run l.i (deciphered-sized a.expanded a.pack a.first run start.requires.0 bytes l.i below) (f l.i) l.invariant.0
           (rw opened at done.open-with.ensures.1.0) refl,

@@ -10,7 +10,7 @@ use types.Run.{OneOf}
 use denote.Enum.Declared.{tag_of}
 use lib.ListN.{length}
 use Rattle.strings.specs.Bytes.{Bytes}
-use Rattle.strings.specs.Call.{number_of as numberOfTests, left_by}
+use Rattle.strings.specs.Call.{number_of as number_of_tests, left_by}
 use Rattle.strings.specs.Cipher.{TweakableCipher, Scheme, Same}
 use Rattle.strings.proofs.Refusals.{refusal-leaves}
 use Rattle.hch.specs.Hch.{hch}
@@ -103,7 +103,7 @@ open-blocks-requires c κs =
     let told = start.before in
     let judged = told.before.before in
     let a = judged.before.before.before.before.before.before.args in
-    let known = openable hch a.key.now a.first a.lengths.now a.run.now (ap numberOfTests (sym judged.judge.ensures ∙ told.enum_told.given.1)) in
+    let known = openable hch a.key.now a.first a.lengths.now a.run.now (ap number_of_tests (sym judged.judge.ensures ∙ told.enum_told.given.1)) in
     (start.expand.ensures.1.1.1 512 (omega arith), in_range hch a.key.now a.first a.lengths.now a.run.now known)
 
 enum-told-2 : tie.Need-enum-told-2
@@ -117,7 +117,7 @@ put-lengths-requires c κs =
     let judged = told.before.before in
     let a = judged.before.before.before.before.before.before.args in
     let run = a.run.now in
-    let known = openable hch a.key.now a.first a.lengths.now run (ap numberOfTests (sym judged.judge.ensures ∙ told.enum_told.given.1)) in
+    let known = openable hch a.key.now a.first a.lengths.now run (ap number_of_tests (sym judged.judge.ensures ∙ told.enum_told.given.1)) in
     let bytes : Bytes run = λ i. (judged.before.before.before.slice-known2.given i).fits in
     left-length (hch_under start.expand.result.expanded) [] (start.expand.ensures.1.1.1 512 (omega arith)) a.pack a.first run bytes
     (sym (whole-blocks run known.is_run)) work.open_blocks.ensures ∙ ap (λ (n : ℕ). 512 * n) (sym known.list_length)
@@ -139,7 +139,7 @@ returns-2 c =
     let key = a.key.now in
     let lengths = a.lengths.now in
     let run = a.run.now in
-    let known = openable hch key a.first lengths run (ap numberOfTests (sym judged.judge.ensures ∙ told.enum_told.given.1)) in
+    let known = openable hch key a.first lengths run (ap number_of_tests (sym judged.judge.ensures ∙ told.enum_told.given.1)) in
     let same = start.expand.ensures.1.1.0 known.is_key in
     let cipher = same-cipher same 16 512 (start.expand.ensures.1.1.1 512 (omega arith)) in
     let bytes : Bytes run = λ i. (judged.before.before.before.slice-known2.given i).fits in
@@ -170,7 +170,7 @@ returns-3 c =
     let key = a.key.now in
     let lengths = a.lengths.now in
     let run = a.run.now in
-    let known = openable hch key a.first lengths run (ap numberOfTests (sym judged.judge.ensures ∙ told.enum_told.given.1)) in
+    let known = openable hch key a.first lengths run (ap number_of_tests (sym judged.judge.ensures ∙ told.enum_told.given.1)) in
     let same = start.expand.ensures.1.1.0 known.is_key in
     let cipher = same-cipher same 16 512 (start.expand.ensures.1.1.1 512 (omega arith)) in
     let o = work.open_blocks.ensures in

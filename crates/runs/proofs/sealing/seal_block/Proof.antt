@@ -9,7 +9,7 @@ use lib.ListN.{length, take, length-take}
 use Rattle.layout.specs.Layout.{plain_block}
 use Rattle.layout.proofs.Check.{both_fit, length_plain}
 use Rattle.pack.specs.Inner.{on_block}
-use Rattle.pack.specs.Sealing.{seal as sealedBy}
+use Rattle.pack.specs.Sealing.{seal as sealed_by}
 use Rattle.runs.proofs.sealing.seal_block.Statement.{statement}
 use Rattle.runs.proofs.sealing.seal_block.Tie as tie
 
@@ -23,7 +23,7 @@ same_length : tie.Need-same-length
 same_length c = search rules
 
 returns : tie.Need-returns
-unfolding sealedBy on_block
+unfolding sealed_by on_block
 returns c =
     let work = c.before.before in
     let laid = work.before.before.before.before in

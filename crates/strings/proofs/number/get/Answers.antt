@@ -30,9 +30,9 @@ loop-i-preserved c =
     rw (l.invariant.1, number-next l.i a.at s) (shifted N b (c.type_inv.s (a.at + l.i)).fits) in (
       omega arith,
       elim c.if-i-there.branch [
-        then-i-there w ↦ w.value-is ∙ next
+        | then-i-there w ↦ w.value-is ∙ next
         | else-i-there w ↦
-          let none : b ≡ 0 = get_or-eq_default s 0 (omega (arith, left.ensures, w.if-i-there.false)) in
-          omega (arith, next, w.value-is, none)
+            let none : b ≡ 0 = get_or-eq_default s 0 (omega (arith, left.ensures, w.if-i-there.false)) in
+            omega (arith, next, w.value-is, none)
       ],
     )

@@ -26,10 +26,10 @@ loop-i-preserved c =
     let more : a.n - (l.i - 1) ≡ a.n - l.i + 1 = omega arith in
     let stored : c.if-i-there.out ≡ set l.out k (l.rest % 256) =
     elim c.if-i-there.branch [
-      then-i-there w ↦ w.out-is
+      | then-i-there w ↦ w.out-is
       | else-i-there w ↦
-        let past : length l.out ≤ k = rw (l.invariant.2, length-overwrite) (omega (arith, left.ensures, w.if-i-there.false)) in
-        w.out-is ∙ sym (set_out l.out k (l.rest % 256) past)
+          let past : length l.out ≤ k = rw (l.invariant.2, length-overwrite) (omega (arith, left.ensures, w.if-i-there.false)) in
+          w.out-is ∙ sym (set_out l.out k (l.rest % 256) past)
     ] in (
       omega arith,
       rw (more, l.invariant.1, rest-next),
