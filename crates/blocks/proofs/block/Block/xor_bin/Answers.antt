@@ -1,5 +1,4 @@
 -- A number of one word is added in the low half.
--- Assumes nothing.
 use Prim.Native.Nat.{ℕ, ◌≤◌, ◌^◌, ◌<◌, ◌%◌}
 use mathlib.Core.Path.{◌≡◌, ◌∙◌}
 use native.Mathlib.Nat.{mod-eq_of_lt, lt_of_lt_of_le, pow-le-pow_right}
@@ -10,21 +9,17 @@ use Rattle.blocks.specs.Blocks.{bin}
 use Rattle.blocks.specs.Inner.{value}
 use Rattle.strings.proofs.Xor.{xor_comm}
 use Rattle.blocks.proofs.Halves.{halves-reduced}
-use Rattle.blocks.proofs.block.Block.xor_bin.Statement.{statement}
-use Rattle.blocks.proofs.block.Block.xor_bin.Tie as tie
+use Rattle.blocks.proofs.block.Block.xor_bin.Goals as goal
 
 word_bin : (n : ℕ) → n < 2 ^ 64 → n % 2 ^ 128 ≡ n
 word_bin n h =
     let le : 2 ^ 64 ≤ 2 ^ 128 = pow-le-pow_right {n = 2} (lit< tt) (lit≤ {m = 64} {n = 128} tt) in
     mod-eq_of_lt (lt_of_lt_of_le h le)
 
-returns : tie.Need-returns
+pub returns : goal.returns
 unfolding value bin ◌⊕◌
 returns c =
-    let a = c.before.args.self in
-    let n = c.before.args.n in
-    let hn : n < 2 ^ 64 = c.before.ranges.n.fits in
+    let a = c.args.self in
+    let n = c.args.n in
+    let hn : n < 2 ^ 64 = c.ranges.n.fits in
     rw (word_bin n hn) (halves-reduced 64 a.hi a.lo n (search rules) hn ∙ xor_comm n (value a))
-
-pub xor-bin-spec : {M : Type 1} → statement M
-xor-bin-spec = tie.close (tie.spec returns)
