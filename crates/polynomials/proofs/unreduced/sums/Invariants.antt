@@ -1,0 +1,16 @@
+-- Sum by sum.
+use Prim.Native.Nat.{ℕ, ◌-◌}
+use mathlib.Core.List.{List}
+use lib.ListN.{get_or}
+use Rattle.strings.specs.Xor.{◌⊕◌}
+use Rattle.strings.proofs.Filled.{Filled}
+use Rattle.polynomials.proofs.unreduced.sums.Given as goal
+
+abbrev pub sum : List ℕ → List ℕ → ℕ → ℕ
+sum x y j = get_or x j 0 ⊕ get_or y j 0
+
+abbrev pub invariant-loop-i : goal.invariant-loop-i
+invariant-loop-i l = Filled 8 l.i (sum l.x l.y) l.z
+
+abbrev pub decreases-loop-i : goal.decreases-loop-i
+decreases-loop-i l = 8 - l.i
