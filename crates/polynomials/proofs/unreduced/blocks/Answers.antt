@@ -1,0 +1,29 @@
+-- The nine products of the parts.
+use mathlib.Core.Path.{◌∙◌}
+use Prim.Native.Nat.{◌^◌, ◌<◌}
+use Rattle.blocks.specs.Inner.{value}
+use Rattle.polynomials.proofs.Karatsuba.{Products, of_blocks}
+use borrow.Author.Rules.{rules}
+use Rattle.polynomials.proofs.unreduced.blocks.Goals as goal
+
+low-a : (c : goal.Start) → c.args.a.lo < 2 ^ 64
+low-a c = search rules
+
+low-b : (c : goal.Start) → c.args.b.lo < 2 ^ 64
+low-b c = search rules
+
+pub returns : goal.returns
+unfolding value
+returns c =
+    let p2 = c in
+    let s = p2 in
+    let a = s.args.a in
+    let b = s.args.b in
+    let ea = p2.parts-x.ensures in
+    let eb = p2.parts-y.ensures in
+    let products : Products c.products.result c.words.result a.lo a.hi b.lo b.hi =
+    record {
+      eight = λ i h. rw (ea, eb) at (c.products.ensures i h);
+      last = rw (ea, eb) at c.words.ensures;
+    } in
+    c.assembled.ensures ∙ of_blocks products (low-a s) (low-b s)
