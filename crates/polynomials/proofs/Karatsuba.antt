@@ -24,7 +24,7 @@ module _ (w x₁ x₀ y₁ y₀ : ℕ) where
   crossed = carryless w x₀ y₁ ⊕ carryless w x₁ y₀
 
   -- of the product of the sums the two corrections leave the crossed products
-  corrected : carryless w (x₀ ⊕ x₁) (y₀ ⊕ y₁) ⊕ lowest ⊕ highest ≡ crossed
+  corrected : carryless w (x₀ ⊕ x₁) (y₀ ⊕ y₁) ⊕ carryless w x₀ y₀ ⊕ carryless w x₁ y₁ ≡ carryless w x₀ y₁ ⊕ carryless w x₁ y₀
   corrected = simp (carryless-add-left, carryless_add_right, xor_laws)
 
   module _ (hx : x₀ < 2 ^ w) (hy : y₀ < 2 ^ w) where

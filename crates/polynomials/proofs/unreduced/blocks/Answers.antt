@@ -6,15 +6,11 @@ use Rattle.polynomials.proofs.Karatsuba.{Products, of_blocks}
 use borrow.Author.Rules.{rules}
 use Rattle.polynomials.proofs.unreduced.blocks.Goals as goal
 
-low-a : (c : goal.Start) → c.args.a.lo < 2 ^ 64
-low-a c = search rules
-
-low-b : (c : goal.Start) → c.args.b.lo < 2 ^ 64
-low-b c = search rules
-
 pub returns : goal.returns
 unfolding value
 returns c =
+    let low_a : c.args.a.lo < 2 ^ 64 = search rules in
+    let low_b : c.args.b.lo < 2 ^ 64 = search rules in
     let p2 = c in
     let s = p2 in
     let a = s.args.a in
@@ -26,4 +22,4 @@ returns c =
       eight = λ i h. rw (ea, eb) at (c.products.ensures i h);
       last = rw (ea, eb) at c.words.ensures;
     } in
-    c.assembled.ensures ∙ of_blocks products (low-a s) (low-b s)
+    c.assembled.ensures ∙ of_blocks products low_a low_b

@@ -1,7 +1,6 @@
 -- The words, and the sums of two.
 use Rattle.strings.specs.Xor.{◌⊕◌}
 use Rattle.polynomials.specs.Inner.{halves_of, both_of, parts}
-use borrow.Author.Rules.{rules}
 use Rattle.polynomials.proofs.unreduced.parts.Goals as goal
 
 pub returns : goal.returns

@@ -1,13 +1,8 @@
 -- Sum by sum.
-use Prim.Native.Nat.{ℕ, ◌-◌}
 use mathlib.Core.Path.{refl}
-use mathlib.Core.List.{List}
 use native.Mathlib.Omega.{arith}
-use lib.ListN.{get_or}
 use Rattle.strings.specs.Xor.{◌⊕◌}
-use Rattle.strings.proofs.Table.{entry}
-use Rattle.strings.proofs.Filled.{Filled, none_filled, one_filled, all_filled}
-use borrow.Author.Rules.{rules}
+use Rattle.strings.proofs.Filled.{one_filled}
 use Rattle.polynomials.proofs.unreduced.sums.Goals as goal
 
 pub loop-i-preserved : goal.loop-i-preserved

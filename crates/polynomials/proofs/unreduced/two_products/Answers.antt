@@ -7,21 +7,13 @@ use Rattle.polynomials.proofs.Karatsuba.{Products, of_two}
 use borrow.Author.Rules.{rules}
 use Rattle.polynomials.proofs.unreduced.two_products.Goals as goal
 
-low-a : (c : goal.Start) → c.args.a.lo < 2 ^ 64
-low-a c = search rules
-
-low-b : (c : goal.Start) → c.args.b.lo < 2 ^ 64
-low-b c = search rules
-
-low-c : (c : goal.Start) → c.args.c.lo < 2 ^ 64
-low-c c = search rules
-
-low-d : (c : goal.Start) → c.args.d.lo < 2 ^ 64
-low-d c = search rules
-
 pub returns : goal.returns
 unfolding value ◌⊕◌
 returns c =
+    let low_a : c.args.a.lo < 2 ^ 64 = search rules in
+    let low_b : c.args.b.lo < 2 ^ 64 = search rules in
+    let low_c : c.args.c.lo < 2 ^ 64 = search rules in
+    let low_d : c.args.d.lo < 2 ^ 64 = search rules in
     let w2 = c in
     let w1 = w2 in
     let sum = w1 in
@@ -45,4 +37,4 @@ returns c =
       eight = λ i h. rw (ec, ed) at (ps2.products-2.ensures i h);
       last = rw (ec, ed) at w2.words-2.ensures;
     } in
-    c.assembled.ensures ∙ of_two sum.sums.result first second (low-a s) (low-b s) (low-c s) (low-d s) sum.sums.ensures
+    c.assembled.ensures ∙ of_two sum.sums.result first second low_a low_b low_c low_d sum.sums.ensures

@@ -1,13 +1,8 @@
 -- The four rows of products, each cut to its places, are the carry-less product.
 -- A part is at most its mask, so a product of two fits where that of the masks does. The masks are read off the code.
 use mathlib.Core.Path.{◌≡◌}
-use Prim.Native.Nat.{ℕ, ◌*◌, ◌^◌}
-use native.Mathlib.Nat.{mul-le-mul, lt_of_le_of_lt}
+use Prim.Native.Nat.{ℕ}
 use borrow.Author.Rules.{rules}
-use lib.Bits.{bit_and, and_le_r}
-use lib.Dec.{T, ltb, lit<}
-use mir.Syntax.{w64}
-use mir.Val.{Fits}
 use Rattle.strings.specs.Xor.{◌⊕◌}
 use Rattle.polynomials.specs.Inner.{carryless}
 use Rattle.polynomials.proofs.Holes.{◌&◌, ones, by_rows, rows_product}
