@@ -1,5 +1,5 @@
 -- The expanded key of the code, a record of words and the number of rounds: what it is made of, and the block cipher that it stands for.
-use Rattle.std.specs.Prelude.{ℕ, ◌+◌, ◌-◌, ◌*◌, min, max, cond, List, ◌++◌, replicate}
+use Rattle.std.specs.Prelude.{ℕ, ◌-◌, ◌*◌, min, max, cond, List, ◌++◌, replicate}
 use Rattle.blocks.specs.BlockCipher.{BlockCipher}
 use Rattle.primitives.specs.Aes.{key_expansion, Nr, is_key, NkOf, encipher, decipher}
 use Rattle.primitives.specs.declared.aes.ExpandedKey.{ExpandedKey}

@@ -1,0 +1,11 @@
+-- Round by round: before round n there are n - 1 done.
+use Rattle.std.proofs.Common.{◌≡◌, ℕ, ◌-◌, ◌≤◌, List}
+use Rattle.primitives.specs.Aes.{rounds, round_key}
+use Rattle.primitives.specs.Inner.{of_columns}
+use Rattle.primitives.proofs.aes.cipher.Given as goal
+
+abbrev pub invariant-loop-n : goal.invariant-loop-n
+invariant-loop-n l = (1 ≤ l.n) × (l.n ≤ l.rounds) × ((p : List ℕ) → of_columns l.initial.t ≡ rounds (round_key l.words) 0 p → of_columns l.t ≡ rounds (round_key l.words) (l.n - 1) p)
+
+abbrev pub decreases-loop-n : goal.decreases-loop-n
+decreases-loop-n l = l.rounds - l.n
