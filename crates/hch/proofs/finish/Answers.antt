@@ -1,0 +1,19 @@
+-- The counter step on the part lent, the hash of what is back, and its write are Table II from I on.
+use Rattle.blocks.specs.BlockField.{power_sum}
+use Rattle.blocks.specs.Inner.{value}
+use Rattle.primitives.specs.Expanded.{under}
+use Rattle.hch.specs.Inner.{ctr_bytes}
+use Rattle.hch.proofs.LentBytes.{finished}
+use Rattle.hch.proofs.finish.Goals as goal
+
+pub returns : goal.returns
+unfolding ctr_bytes
+returns c =
+    let w = c in
+    let h = w in
+    let k = h in
+    let e = k in
+    let start = e in
+    let args = start.args in
+    simp (w.write.ensures, h.hash.ensures, k.counter.ensures, e.encipher-s.ensures)
+    (finished (under args.expanded).E power_sum (value args.r) (value args.q) (value args.i) (value args.first) args.message.now start.requires)
