@@ -1,5 +1,6 @@
 // Finding a block in a lent pack by its place. The block is a part of the pack: nothing is copied.
 ghost use Rattle.std.specs.Prelude.{◌≡◌};
+ghost use denote.MutBor.{as_bor};
 ghost use Rattle.layout.specs.Finding.{is_pack, answer_of, found, BeginsAt, Written};
 
 use strings::refusal::{Answer, Refusal};
@@ -45,8 +46,8 @@ pub fn find(pack: &[u8], place: u32) -> &[u8]
 // and goes into the result.
 pub fn find_mut(pack: &mut [u8], place: u32) -> &mut [u8]
     ensures result_value { result.now ≡ found place pack.old }
-    ensures begins_at { BeginsAt place pack.entry result }
-    ensures written { Written place pack.entry result }
+    ensures begins_at { BeginsAt place (as_bor pack.entry) (as_bor result) }
+    ensures written { Written place (as_bor pack.entry) (as_bor result) }
 {
     let answer = find_answer(pack, place);
     if let Answer::Done = answer {

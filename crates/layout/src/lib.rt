@@ -57,7 +57,7 @@ pub fn write(payload: &[u8], pack: u64, place: u32, block: &mut [u8])
     if block.len() != 512 {
         return;
     }
-    bytes::copy(payload, block);
+    block[..payload.len()].copy_from_slice(payload);
     put_check(payload.len(), pack, place, block);
 }
 

@@ -3,14 +3,16 @@ use mathlib.Core.Path.{◌≡◌, refl, sym, ap, ◌∙◌}
 use mathlib.Core.Bool.{Bool, true, false, cond}
 use mathlib.Core.List.{List, [], ◌∷◌, ◌++◌, append-nil, append_assoc}
 use Prim.Native.Nat.{ℕ, suc, ◌+◌, ◌≤◌, ◌<◌, zero-le, suc-le-suc}
-use native.Mathlib.Nat.{not-suc-le-zero, le_of_suc-le-suc, le_of_lt, zero-add, add_assoc}
+use native.Mathlib.Nat.{not-suc-le-zero, le_of_suc-le-suc, le_of_lt, add_assoc}
 use native.Mathlib.Numerals.{add-one}
 use native.Mathlib.Omega.{arith}
-use lib.ListN.{length, take, drop, length-append}
-use lib.Seq.{take-length, take-append-add}
+use lib.ListN.{length, get_or, take, drop, length-append}
+use lib.Seq.{take-append-add}
 use lib.Dec.{eqb, leb}
-use borrow.Author.Tests.{eq-eqb, eqb-true, lt-leb, leb-false}
-use Rattle.bytes.specs.Bytes.{slice, index_after, index_of}
+use borrow.Author.Tests.{eq-eqb, ne_eqb, eqb-true, lt-leb, leb-false}
+use Rattle.std.specs.List.{position_or_len}
+use Rattle.std.proofs.lemmas.List.Recursion.{is_position_or_len}
+use Rattle.std.proofs.lemmas.List.Sums.{position_or_len_is}
 use Rattle.strings.specs.Inner.{overwrite}
 use Rattle.strings.proofs.Place.{length-overwrite, overwrite-past, overwrite-append}
 use Rattle.text.specs.Part.{split_from}
@@ -18,19 +20,22 @@ use Rattle.text.specs.Inner.{before, line_with, kept_with}
 use Rattle.text.specs.declared.part.Kept.{Kept}
 use Rattle.text.specs.declared.part.Kept.TheVariants.{Characters, TooLong}
 
--- its length is the place of the first b, which is what `bytes::scan::find` answers
-length_before : (b : ℕ) (xs : List ℕ) → length (before b xs) ≡ index_of b xs
-unfolding before index_of
-length_before b [] = refl
-length_before b (x ∷ xs) = by (eqb x b) (length_before b xs)
+-- its length is the place of the first b, or the length of the list
+length_before : (b : ℕ) (xs : List ℕ) → length (before b xs) ≡ position_or_len (λ x. eqb x b) xs
+unfolding before
+length_before b xs = is_position_or_len (λ l. length (before b l)) (λ x. eqb x b) refl (λ x l. by (eqb x b) x (before b l)) xs
   where
-    by : (t : Bool) → length (before b xs) ≡ index_of b xs → length (cond t [] (x ∷ before b xs)) ≡ index_after t (index_of b xs)
-    by true e = refl
-    by false e = ap suc e
+    by : (t : Bool) (x : ℕ) (l : List ℕ) → length (cond t [] (x ∷ l)) ≡ cond t 0 (1 + length l)
+    by true x l = refl
+    by false x l = omega arith
 
-pub before_index : (b : ℕ) (s : List ℕ) {n : ℕ} → n ≡ 0 + index_of b (slice 0 (length s) s) → n ≡ length (before b s)
-unfolding slice
-before_index b s e = rw (length_before b s) (simp (zero-add, take-length) at e)
+-- which is i, where no place in front of i has b
+pub before_place : (b : ℕ) (xs : List ℕ) (i : ℕ) → i ≤ length xs → ((k : ℕ) → k < i → get_or xs k 0 ≡ b → ⊥) → (i < length xs → get_or xs i 0 ≡ b)
+    → i ≡ length (before b xs)
+before_place b xs i h none here =
+    sym
+    (length_before b xs
+    ∙ position_or_len_is (λ x. eqb x b) xs i 0 h (λ k l. ne_eqb (get_or xs k 0) b (none k l)) (λ l. eq-eqb (get_or xs i 0) b (here l)))
 
 shorter : (t : Bool) (x : ℕ) (xs ys : List ℕ) → length ys ≤ length xs → length (cond t [] (x ∷ ys)) ≤ suc (length xs)
 shorter true x xs ys h = zero-le

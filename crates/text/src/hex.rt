@@ -72,11 +72,23 @@ pub fn decode_field(text: &[u8], end: u8, out: &mut [u8]) -> Decoded
     ensures value { result ≡ field_of end text.now out.old }
     ensures out_after { out.new ≡ decoded_in result (before end text.now) out.old }
 {
-    let n = bytes::scan::find(text, 0, text.len(), end);
+    let n = place_of(end, text);
     if n >= text.len() {
         return Decoded::Refused;
     }
     decode(&text[0..n], out)
+}
+
+// The place of the first byte b, or the length of `s` where there is none.
+fn place_of(b: u8, s: &[u8]) -> usize
+    ensures { result ≡ length (before b s.now) }
+{
+    for (i, x) in s.iter().enumerate() {
+        if *x == b {
+            return i;
+        }
+    }
+    s.len()
 }
 
 // The byte whose two digits stand from place k on.
