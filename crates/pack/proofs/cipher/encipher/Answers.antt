@@ -1,0 +1,21 @@
+-- The lengths are those that every scheme admits, so it does its work, and its contract says that it is a cipher.
+use borrow.Author.Tests.{eq-eqb, ne_eqb}
+use Rattle.pack.specs.Inner.{on_block}
+use Rattle.pack.proofs.Admits.{by_contract}
+use Rattle.pack.proofs.cipher.encipher.Goals as goal
+
+pub returns-then-block-eq512 : goal.returns-then-block-eq512
+unfolding on_block
+returns-then-block-eq512 c =
+    let a = c.args in
+    let size = c.if-block-eq512.true in
+    let e = c.encipher_with.ensures in
+    let told =
+    by_contract a.pack a.place a.block.now size a.name a.expanded _ _
+    (rw c.tweak-tweak.ensures at e.value) (rw c.tweak-tweak.ensures at e.message_after) (rw c.tweak-tweak.ensures at e.cipher) in
+    record { block_after = rw (eq-eqb _ 512 size) told.0; cipher_at = λ l. told.1 }
+
+pub returns-else-block-eq512 : goal.returns-else-block-eq512
+unfolding on_block
+returns-else-block-eq512 c =
+    record { block_after = rw (ne_eqb _ 512 c.if-block-eq512.false); cipher_at = λ l. absurd (c.if-block-eq512.false l) }
