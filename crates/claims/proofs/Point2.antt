@@ -168,7 +168,7 @@ point_2 = record {
       ((hch_runs key k).one_run n payload pack first (limits n payload first p) run (record { run_length = size; in_front = front })).one;
   one_run_counted = λ key n payload pack first k p.
       let w = limits n payload first p in
-      ((hch_runs key k).one_run n payload pack first w (laid_out n payload) ((RunTheorems.theorems).laid_out n payload first w)).counted;
+      ((hch_runs key k).one_run n payload pack first w (laid_out n payload) ((RunTheorems.theorems).laid_out_lem n payload first w)).counted;
   hch_runs = hch_runs;
   numbers = numbers;
 }

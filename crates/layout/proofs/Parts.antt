@@ -79,9 +79,9 @@ pub before_or_from : {A : Type 0} (i a : ℕ) → (i < a → A) → (a ≤ i →
 before_or_from i a before from =
     ⊎_elim (λ (h : a - i ≡ 0). from (omega arith)) (λ (h : 0 < a - i). before (omega arith)) (eq-zero-or-pos (a - i))
 
-pub get_d_part : (place : ℕ) (pack : List ℕ) (i : ℕ) → i < 512 → get_or (part place pack) i 0 ≡ get_or pack (512 * place + i) 0
+pub get_or-part : (place : ℕ) (pack : List ℕ) (i : ℕ) → i < 512 → get_or (part place pack) i 0 ≡ get_or pack (512 * place + i) 0
 unfolding part
-get_d_part place pack i h = get_or-take 512 (drop (512 * place) pack) i 0 h ∙ get_or-drop (512 * place) pack i 0
+get_or-part place pack i h = get_or-take 512 (drop (512 * place) pack) i 0 h ∙ get_or-drop (512 * place) pack i 0
 
 -- The length of the pack with another block in a place, and its bytes in front of that block, in it and behind it.
 module _ (place : ℕ) (block pack : List ℕ) (room : 512 * place + 512 ≤ length pack) (long : length block ≡ 512) where
@@ -120,7 +120,7 @@ module _ (place : ℕ) (block pack : List ℕ) (room : 512 * place + 512 ≤ len
       ext_get_or 0 (part place (with_part place block pack)) block (size ∙ sym long)
       (λ i h.
       let in_block : i < 512 = omega (arith, h, size) in
-      get_d_part place (with_part place block pack) i in_block ∙ with_within i in_block)
+      get_or-part place (with_part place block pack) i in_block ∙ with_within i in_block)
 
   other_byte : (other i : ℕ) → (other ≡ place → ⊥) → i < 512 → get_or (with_part place block pack) (512 * other + i) 0 ≡ get_or pack (512 * other + i) 0
   other_byte other i apart h =
@@ -137,7 +137,7 @@ module _ (place : ℕ) (block pack : List ℕ) (room : 512 * place + 512 ≤ len
       ext_get_or 0 (part other (with_part place block pack)) (part other pack) (size ∙ sym (part_length other pack within))
       (λ i h.
       let in-part : i < 512 = omega (arith, h, size) in
-      get_d_part other (with_part place block pack) i in-part ∙ other_byte other i apart in-part ∙ sym (get_d_part other pack i in-part))
+      get_or-part other (with_part place block pack) i in-part ∙ other_byte other i apart in-part ∙ sym (get_or-part other pack i in-part))
 
 -- ---- a pack is its parts
 

@@ -43,8 +43,8 @@ unfolding part
 part-blockwise f run n sized j h = rw (append-nil (blockwise f n run)) at (nth_blockwise 512 f run n sized j h [])
 
 -- A number for each block.
-pub get_d_blockwise : (g : ℕ → List ℕ → ℕ) (run : List ℕ) (n j : ℕ) → j < n → get_or (blockwise (λ i B. g i B ∷ []) n run) j 0 ≡ g j (part j run)
-get_d_blockwise g run n j h =
+pub get_or-blockwise : (g : ℕ → List ℕ → ℕ) (run : List ℕ) (n j : ℕ) → j < n → get_or (blockwise (λ i B. g i B ∷ []) n run) j 0 ≡ g j (part j run)
+get_or-blockwise g run n j h =
     let made = blockwise (λ i B. g i B ∷ []) n run in
     let e : take 1 (drop j made) ≡ g j (part j run) ∷ [] = rw (append-nil made, one-mul) at (nth_blockwise 1 (λ i B. g i B ∷ []) run n (λ i l. refl) j h []) in
     let there : j ≡ j + 0 = omega arith in

@@ -7,7 +7,7 @@ use mathlib.Core.List.{List, [], ◌∷◌, ◌++◌, append_assoc}
 use native.Mathlib.Nat.{one-mul}
 use native.Mathlib.Numerals.{add-one}
 use native.Mathlib.Omega.{arith}
-use borrow.Author.Tests.{ltb-false, le-ltb, lt-ltb, eqb-true, not_false}
+use borrow.Author.Tests.{ltb-false, le-ltb, lt-ltb, eqb-true, not-false}
 use lib.Dec.{ltb, eqb}
 use lib.ListN.{length, get_or, set, take, drop}
 use lib.Seq.{drop-cons, set_at, take_all}
@@ -66,7 +66,7 @@ pub first_entries : (a : Answer) (why late : Refusal) (limit n : ℕ) (s : List 
 first_entries a why late limit n s =
     late_test a (not (eqb (length s) n)) why late (some_over limit (take (min n (length s) - 0) s)) (some_over limit s)
     (λ e.
-    let same : length s ≡ n = eqb-true (length s) n (not_false (eqb (length s) n) e) in
+    let same : length s ≡ n = eqb-true (length s) n (not-false (eqb (length s) n) e) in
     ap (some_over limit) (take_all (min n (length s) - 0) s (omega (arith, same))))
 
 -- ---- a list that is filled with a number for each block

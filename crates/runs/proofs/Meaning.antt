@@ -67,7 +67,7 @@ module _ (S : Scheme) (key : List ℕ) (cipher : TweakableCipher 16 512 (S.encip
     of_block_lem : BlockUnopened S (block_number S key pack first run i) key pack (first + i) (part i run)
     of_block_lem =
         let p = part_of_length i run b (omega (arith, h)) in
-        block_unopened S key pack (first + i) (at S key cipher pack first (first + i)) (part i run) p.1 a.is_key p.0 (omega (arith, (in_range S key first lengths run a).places, h))
+        block_unopened S key pack (first + i) (at S key cipher pack first (first + i)) (part i run) p.1 a.is_key_lem p.0 (omega (arith, (in_range S key first lengths run a).places, h))
 
     at_block : Unopened S (answer_of S key pack first lengths run) key pack first run i
     at_block =
@@ -91,7 +91,7 @@ module _ (S : Scheme) (key : List ℕ) (cipher : TweakableCipher 16 512 (S.encip
 
   pub unopened : (lengths : List ℕ) → UnopenedMeaning S (answer_of S key pack first lengths run) key pack first lengths run
   unopened lengths k whole list last i h =
-      let a : Admitted S key first lengths run = record { is_key = k; is_run = whole; list_length = list; last_place_lem = last } in
+      let a : Admitted S key first lengths run = record { is_key_lem = k; is_run = whole; list_length = list; last_place_lem = last } in
       at_block lengths a i h
 
   -- ---- a run that was opened
@@ -154,7 +154,7 @@ module _ (S : Scheme) (key : List ℕ) (cipher : TweakableCipher 16 512 (S.encip
           payload_length = λ i h. rw (left_payload i h) (from i h).payload_length;
           place_limit = (in_range S key first lengths run known).places;
         } in
-        rw seals at (one_run S key cipher known.is_key pack first (payload_at lengths' B) (block_count run) w B)
+        rw seals at (one_run S key cipher known.is_key_lem pack first (payload_at lengths' B) (block_count run) w B)
 
   -- So an answer by the definition means what it is to mean.
   pub meaning : (lengths : List ℕ)
@@ -185,6 +185,6 @@ module _ (S : Scheme) (key : List ℕ) (pack first : ℕ) (lengths run : List �
         sealed = λ z. absurd (some z);
         one_run = λ z. absurd (some z);
         unopened = λ k whole list last i h.
-            let a : Admitted S key first lengths run = record { is_key = k; is_run = whole; list_length = list; last_place_lem = last } in
+            let a : Admitted S key first lengths run = record { is_key_lem = k; is_run = whole; list_length = list; last_place_lem = last } in
             absurd (some (ap number_of_tests (sym e ∙ no_test_holds S key first lengths run a)));
       }

@@ -18,7 +18,7 @@ use Rattle.strings.proofs.Equal.{both, equal_refl, equal_true}
 use Rattle.strings.proofs.One.{two-parts, no_part, same_test}
 use Rattle.layout.specs.Layout.{used}
 use Rattle.layout.specs.Finding.{block_count, part}
-use Rattle.layout.proofs.Parts.{is_pack_lem, part_length, get_d_part, count_of, pack_of}
+use Rattle.layout.proofs.Parts.{is_pack_lem, part_length, get_or-part, count_of, pack_of}
 use Rattle.pack.specs.Sealing.{seal, WithinLimits as BlockWithinLimits}
 use Rattle.pack.specs.Opening.{deciphered_block, opens_to as block_opens_to}
 use Rattle.pack.proofs.OneBlock.{OpenedTo, opened_to, opens_to_lem, one_block}
@@ -28,7 +28,7 @@ use Rattle.runs.specs.Opening.{number_of, deciphered_run, used_lengths, in_turn,
 use Rattle.runs.specs.Theorems.{WithinLimits}
 use Rattle.runs.specs.declared.opening.RunOpened.TheVariants.{Done}
 use Rattle.runs.proofs.Answers.{all-open, each_opens}
-use Rattle.runs.proofs.Blocks.{below_more, get_d_blockwise, blockwise-same}
+use Rattle.runs.proofs.Blocks.{below_more, get_or-blockwise, blockwise-same}
 use Rattle.runs.proofs.Limits.{both-done, Admitted, sealable, no_test_holds, in_range}
 use Rattle.runs.proofs.Lists.{none_over}
 use Rattle.runs.proofs.Sizes.{at, part_of_length, deciphered-part, used-part}
@@ -42,7 +42,7 @@ part-take n i u h room =
     ext_get_or 0 (part i (take (512 * n) u)) (part i u) (size ∙ sym (part_length i u (omega (arith, room, h))))
     (λ j l.
     let within : j < 512 = omega (arith, l, size) in
-    get_d_part i (take (512 * n) u) j within ∙ get_or-take (512 * n) u (512 * i + j) 0 (omega (arith, h, within)) ∙ sym (get_d_part i u j within))
+    get_or-part i (take (512 * n) u) j within ∙ get_or-take (512 * n) u (512 * i + j) 0 (omega (arith, h, within)) ∙ sym (get_or-part i u j within))
 
 part-last : (n : ℕ) (u : List ℕ) → length u ≡ 512 * suc n → drop (512 * n) u ≡ part n u
 unfolding part
@@ -55,8 +55,8 @@ unfolding lengths_of blockwise
 lengths_blockwise payload run zero = refl
 lengths_blockwise payload run (suc n) = rw (lengths_blockwise payload run n)
 
-pub get_d_lengths : (payload : ℕ → List ℕ) (n i : ℕ) → i < n → get_or (lengths_of payload n) i 0 ≡ length (payload i)
-get_d_lengths payload n i h = rw (lengths_blockwise payload [] n) (get_d_blockwise (λ i B. length (payload i)) [] n i h)
+pub get_or-lengths_of : (payload : ℕ → List ℕ) (n i : ℕ) → i < n → get_or (lengths_of payload n) i 0 ≡ length (payload i)
+get_or-lengths_of payload n i h = rw (lengths_blockwise payload [] n) (get_or-blockwise (λ i B. length (payload i)) [] n i h)
 
 begins : (payload : ℕ → List ℕ) (n : ℕ) (run : List ℕ) → ((i : ℕ) → i < n → take (length (payload i)) (part i run) ≡ payload i) → begin_with payload n run ≡ true
 unfolding begin_with
@@ -150,7 +150,7 @@ module _ (S : Scheme) (key : List ℕ) (cipher : TweakableCipher 16 512 (S.encip
         let front : begin_with payload n (deciphered_run S key pack first u) ≡ true = rw none at t.1 in
         opens_to_lem S key pack (first + i) (part i u) (payload i) (record {
           answered = each_opens S key pack first u (block_count u) opened.1 i (rw n_blocks h);
-          used-length = sym (used-part S key cipher pack first u size.1 i (rw n_blocks h)) ∙ ap (λ (l : List ℕ). get_or l i 0) (equal_true (used_lengths S key pack first u) (lengths_of payload n) same) ∙ get_d_lengths payload n i h;
+          used-length = sym (used-part S key cipher pack first u size.1 i (rw n_blocks h)) ∙ ap (λ (l : List ℕ). get_or l i 0) (equal_true (used_lengths S key pack first u) (lengths_of payload n) same) ∙ get_or-lengths_of payload n i h;
           front = rw (deciphered-part S key cipher pack first u size.1 i (rw n_blocks h)) at (begun payload n (deciphered_run S key pack first u) front i h);
         })
 

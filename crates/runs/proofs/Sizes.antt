@@ -21,7 +21,7 @@ use Rattle.pack.proofs.OneBlock.{seal_of_length, given_back}
 use Rattle.runs.specs.Run.{blockwise}
 use Rattle.runs.specs.Opening.{deciphered_run, used_lengths}
 use Rattle.runs.specs.Inner.{walked}
-use Rattle.runs.proofs.Blocks.{length-blockwise, walked-front, walked-rest, part-blockwise, get_d_blockwise, blockwise-same, blockwise_self}
+use Rattle.runs.proofs.Blocks.{length-blockwise, walked-front, walked-rest, part-blockwise, get_or-blockwise, blockwise-same, blockwise_self}
 
 pub part_of_length : (i : ℕ) (run : List ℕ) → Bytes run → 512 * i + 512 ≤ length run → OfLength 512 (part i run)
 unfolding part
@@ -68,7 +68,7 @@ module _ (S : Scheme) (key : List ℕ) (cipher : TweakableCipher 16 512 (S.encip
 
     pub used-part : (i : ℕ) → i < block_count run → get_or (used_lengths S key pack first run) i 0 ≡ used (deciphered_block S key pack (first + i) (part i run))
     unfolding used_lengths
-    used-part = get_d_blockwise (λ i C. used (deciphered_block S key pack (first + i) C)) run (block_count run)
+    used-part = get_or-blockwise (λ i C. used (deciphered_block S key pack (first + i) C)) run (block_count run)
 
     -- The list as it is read from what was opened.
     pub lengths_read : blockwise (λ i B. used B ∷ []) (block_count run) (deciphered_run S key pack first run) ≡ used_lengths S key pack first run

@@ -27,7 +27,7 @@ use Rattle.runs.proofs.Blocks.{length-blockwise, part-blockwise, blockwise-same}
 use Rattle.runs.proofs.Limits.{sealable, in_range}
 use Rattle.runs.proofs.Lists.{none_over}
 use Rattle.runs.proofs.Meaning.{known, opens, unopened}
-use Rattle.runs.proofs.OneRun.{get_d_lengths, one_run as one_of_payloads}
+use Rattle.runs.proofs.OneRun.{get_or-lengths_of, one_run as one_of_payloads}
 use Rattle.runs.proofs.Orders.{in_any_order}
 use Rattle.runs.proofs.Sizes.{sealed-length, deciphered_of_length, deciphered-part, used-part}
 
@@ -102,7 +102,7 @@ module _ (S : Scheme) (key : List ℕ) (k : S.is_key key ≡ true) (cipher : Twe
       rw (
         count_of n run held.run_length,
         blockwise-same (λ i B. seal S key (take (get_or (lengths_of payload n) i 0) B) pack (first + i)) (λ i B. seal S key (payload i) pack (first + i)) n run run
-            (λ i h. rw (get_d_lengths payload n i h, held.in_front i h)),
+            (λ i h. rw (get_or-lengths_of payload n i h, held.in_front i h)),
       )
       (one_of_payloads S key cipher k pack first payload n w run)
 
@@ -119,8 +119,8 @@ any_cipher S key k cipher = record {
   unopened = λ pack first lengths run b. unopened S key cipher pack first run b lengths;
 }
 
-laid_out : (n : ℕ) (payload : ℕ → List ℕ) (first : ℕ) → WithinLimits n payload first → Holds n payload (laid_out n payload)
-laid_out n payload first w =
+laid_out_lem : (n : ℕ) (payload : ℕ → List ℕ) (first : ℕ) → WithinLimits n payload first → Holds n payload (laid_out n payload)
+laid_out_lem n payload first w =
     let f : ℕ → List ℕ → List ℕ = λ i B. payload i ++ replicate (512 - length (payload i)) 0 in
     let sized : (i : ℕ) → i < n → length (f i (part i [])) ≡ 512 = λ i h. rw (length-append, length-replicate) (omega (arith, w.payload_length i h)) in
     record {
@@ -129,4 +129,4 @@ laid_out n payload first w =
     }
 
 pub theorems : Theorems
-theorems = record { laid_out = laid_out; any_cipher = any_cipher }
+theorems = record { laid_out_lem = laid_out_lem; any_cipher = any_cipher }

@@ -66,6 +66,6 @@ pub record Runs (S : Scheme) (key : List ℕ) : Type 0 where
 
 pub record Theorems : Type 0 where
   -- There is a run that holds n payloads within the limits.
-  pub laid_out : (n : ℕ) (payload : ℕ → List ℕ) (first : ℕ) → WithinLimits n payload first → Holds n payload (laid_out n payload)
+  pub laid_out_lem : (n : ℕ) (payload : ℕ → List ℕ) (first : ℕ) → WithinLimits n payload first → Holds n payload (laid_out n payload)
   -- For every scheme that is, under this key, a tweakable cipher of 512 bytes.
   pub any_cipher : (S : Scheme) (key : List ℕ) → S.is_key key ≡ true → TweakableCipher 16 512 (S.encipher key) (S.decipher key) → Runs S key
