@@ -1,6 +1,6 @@
 -- Every theorem of specs/Theorems.antt.
 -- Assumes nothing.
-use Prim.Native.Nat.{ℕ, ◌-◌}
+use Prim.Native.Nat.{ℕ}
 use mathlib.Core.Path.{◌≡◌, refl}
 use mathlib.Core.List.{List, ◌∷◌, []}
 use lib.ListN.{length}
