@@ -4,7 +4,7 @@ import re
 
 from edits import pairs_of, refused
 from promises import (CLAUSE, PUBLIC, clauses, contracts, has_other_types,
-                      statements, without_comments)
+                      is_of_a_clause, statements, without_comments)
 
 
 class Crate:
@@ -21,7 +21,7 @@ class Crate:
                         for file, text in self.texts.items()}
         self.source = {file: text for file, text in self.checked.items()
                        if file.startswith("src/")}
-        self.has_code = any(re.search(r"\bfn \w+\(", text)
+        self.has_code = any(re.search(r"\bfn \w+[(<]", text)
                             for text in self.source.values())
         self.is_library = "src/main.rt" not in self.source
         self.edits = {path.name: list(pairs_of(path.read_text()))
@@ -89,7 +89,8 @@ class Crate:
     def quotes(self, file, old, new):
         """Whether a pair quotes what is checked: a clause that it quotes has
         to be a public function's, and an anchor may not be a comment."""
-        if file in self.source and ("⌜" in old or old == new):
+        if file in self.source and (old == new or is_of_a_clause(
+                old, self.source[file])):
             return any(promise.file == file and promise.text in old
                        for promise in self.promises)
         return old != new or old in self.checked[file]
@@ -101,15 +102,16 @@ class Crate:
             for line in contract:
                 if not CLAUSE.fullmatch(line):
                     yield f"{file}: not a clause: {line.strip()}"
-        before = ""
+        exported = False
         for line in text.split("\n"):
             private = re.match(r" *(pub\(crate\) )?fn ", line)
             if re.search(r"\bfn \w|\bmod \w+ {", line) and not (
                     private or PUBLIC.match(line)):
                 yield f"{file}: a form that is not read: {line.strip()}"
-            if "no_mangle" in before and not PUBLIC.match(line):
+            attribute = re.match(r" *#!?\[", line)
+            if exported and not (attribute or PUBLIC.match(line)):
                 yield f"{file}: exported and not public: {line.strip()}"
-            before = line
+            exported = "no_mangle" in line or exported and attribute
 
     def code_faults(self):
         for file, text in self.texts.items():
@@ -125,7 +127,7 @@ class Crate:
             if file.startswith("specs/") and has_other_types(text):
                 yield f"{file}: has a type that is not read"
             if not file.startswith("proofs/") and re.search(
-                    r"^(ghost )?use .*\.proofs\b", text, re.M):
+                    r"^(pub |ghost )*use .*\.proofs\b", text, re.M):
                 yield f"{file}: uses a module of proofs"
         for file, text in self.source.items() if self.is_library else ():
             yield from self.contract_faults(file, text)
