@@ -6,6 +6,11 @@ from edits import pairs_of, refused
 from promises import (CLAUSE, PUBLIC, clauses, contracts, has_other_types,
                       is_of_a_clause, statements, without_comments)
 
+# Functions that are neither public nor private, methods that promise what
+# their trait does, and ghost values, which a clause may speak of.
+UNREAD = re.compile(r"\bfn \w|\bmod \w+ {|\btrait \w|\bimpl\b.* for \w|"
+                    r"\bmacro_rules!|^ *ghost (?!use )")
+
 
 class Crate:
     """The files of a crate by their names, its edits and its promises."""
@@ -33,7 +38,7 @@ class Crate:
     def promised(self):
         for file, text in self.checked.items():
             if file in self.source and self.is_library:
-                yield from clauses(file, text)
+                yield from clauses(file, text, self.texts[file])
             elif file.startswith("specs/"):
                 yield from statements(file, text, self.has_code)
 
@@ -105,8 +110,7 @@ class Crate:
         exported = False
         for line in text.split("\n"):
             private = re.match(r" *(pub\(crate\) )?fn ", line)
-            if re.search(r"\bfn \w|\bmod \w+ {", line) and not (
-                    private or PUBLIC.match(line)):
+            if UNREAD.search(line) and not (private or PUBLIC.match(line)):
                 yield f"{file}: a form that is not read: {line.strip()}"
             attribute = re.match(r" *#!?\[", line)
             if exported and not (attribute or PUBLIC.match(line)):
@@ -124,6 +128,8 @@ class Crate:
                     or f"pub mod {name[:-len('.antt')]}\n" in library):
                 yield f"{file}: not in {part}/Lib.antt"
         for file, text in self.checked.items():
+            if re.search(r"^(pub |ghost )*use .*{$", text, re.M):
+                yield f"{file}: uses something over lines, which is not read"
             if file.startswith("specs/") and has_other_types(text):
                 yield f"{file}: has a type that is not read"
             if not file.startswith("proofs/") and re.search(

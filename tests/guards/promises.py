@@ -8,6 +8,7 @@ import re
 
 PUBLIC = re.compile(r' *(pub (?:extern "C" )?fn \w+.*)')
 CLAUSE = re.compile(r" *ensures (?:\w+ )?({ .* })")
+QUOTED = re.compile(r"(?:(?:requires|ensures) )?(?:\w+ )?{ .* }")
 RENAMED = re.compile(r"^(?:pub |ghost )*use .* as .*\n", re.M)
 RECORD = re.compile(r"^( *)(?:pub )?(?:record|data) .*\n(?:\1 +.*\n|\n)*",
                     re.M)
@@ -45,22 +46,25 @@ def contracts(text):
 
 
 def is_of_a_clause(quoted, text):
-    """Whether what an edit quotes stands in a clause, of any function."""
-    return any(quoted in line for line in text.split("\n")
-               if re.match(r" *(requires|ensures)\b", line))
+    """Whether what an edit quotes has the form of a clause, or stands in one
+    of any function."""
+    return QUOTED.fullmatch(quoted) or any(
+        quoted in line for line in text.split("\n")
+        if re.match(r" *(requires|ensures)\b", line))
 
 
-def clauses(file, text):
+def clauses(file, text, whole):
     """Each function's first line, and each clause's fact in its braces; the
-    whole clause, with its name, where two have the same fact. Two methods with
-    the same first line cannot be quoted by it."""
+    clause with its name, where the whole file has the fact twice. Two methods
+    with the same first line cannot be quoted by it."""
     yield from lines_of(file, RENAMED.findall(text))
     for head, contract in contracts(text):
         if text.count(head) == 1:
             yield Promise(file, head, re.escape(head))
         for found in filter(None, map(CLAUSE.fullmatch, contract)):
-            fact = found[1] if text.count(found[1]) == 1 else found[0].strip()
-            yield Promise(file, fact, re.escape(fact))
+            once = whole.count(found[1]) == 1
+            quoted = found[1] if once else found[0].strip()
+            yield Promise(file, quoted, re.escape(quoted))
 
 
 def statements(file, text, has_code):
