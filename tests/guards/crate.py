@@ -4,7 +4,12 @@ import re
 
 from edits import pairs_of, refused
 from promises import (CLAUSE, PUBLIC, clauses, contracts, has_other_types,
-                      statements, without_comments)
+                      is_of_a_clause, statements, without_comments)
+
+# Functions that are neither public nor private, methods that promise what
+# their trait does, and ghost values, which a clause may speak of.
+UNREAD = re.compile(r"\bfn \w|\bmod \w+ {|\btrait \w|\bimpl\b.* for \w|"
+                    r"\bmacro_rules!|^ *ghost (?!use )")
 
 
 class Crate:
@@ -21,7 +26,7 @@ class Crate:
                         for file, text in self.texts.items()}
         self.source = {file: text for file, text in self.checked.items()
                        if file.startswith("src/")}
-        self.has_code = any(re.search(r"\bfn \w+\(", text)
+        self.has_code = any(re.search(r"\bfn \w+[(<]", text)
                             for text in self.source.values())
         self.is_library = "src/main.rt" not in self.source
         self.edits = {path.name: list(pairs_of(path.read_text()))
@@ -33,7 +38,7 @@ class Crate:
     def promised(self):
         for file, text in self.checked.items():
             if file in self.source and self.is_library:
-                yield from clauses(file, text)
+                yield from clauses(file, text, self.texts[file])
             elif file.startswith("specs/"):
                 yield from statements(file, text, self.has_code)
 
@@ -89,7 +94,8 @@ class Crate:
     def quotes(self, file, old, new):
         """Whether a pair quotes what is checked: a clause that it quotes has
         to be a public function's, and an anchor may not be a comment."""
-        if file in self.source and ("⌜" in old or old == new):
+        if file in self.source and (old == new or is_of_a_clause(
+                old, self.source[file])):
             return any(promise.file == file and promise.text in old
                        for promise in self.promises)
         return old != new or old in self.checked[file]
@@ -101,15 +107,15 @@ class Crate:
             for line in contract:
                 if not CLAUSE.fullmatch(line):
                     yield f"{file}: not a clause: {line.strip()}"
-        before = ""
+        exported = False
         for line in text.split("\n"):
             private = re.match(r" *(pub\(crate\) )?fn ", line)
-            if re.search(r"\bfn \w|\bmod \w+ {", line) and not (
-                    private or PUBLIC.match(line)):
+            if UNREAD.search(line) and not (private or PUBLIC.match(line)):
                 yield f"{file}: a form that is not read: {line.strip()}"
-            if "no_mangle" in before and not PUBLIC.match(line):
+            attribute = re.match(r" *#!?\[", line)
+            if exported and not (attribute or PUBLIC.match(line)):
                 yield f"{file}: exported and not public: {line.strip()}"
-            before = line
+            exported = "no_mangle" in line or exported and attribute
 
     def code_faults(self):
         for file, text in self.texts.items():
@@ -122,10 +128,12 @@ class Crate:
                     or f"pub mod {name[:-len('.antt')]}\n" in library):
                 yield f"{file}: not in {part}/Lib.antt"
         for file, text in self.checked.items():
+            if re.search(r"^(pub |ghost )*use .*{$", text, re.M):
+                yield f"{file}: uses something over lines, which is not read"
             if file.startswith("specs/") and has_other_types(text):
                 yield f"{file}: has a type that is not read"
             if not file.startswith("proofs/") and re.search(
-                    r"^(ghost )?use .*\.proofs\b", text, re.M):
+                    r"^(pub |ghost )*use .*\.proofs\b", text, re.M):
                 yield f"{file}: uses a module of proofs"
         for file, text in self.source.items() if self.is_library else ():
             yield from self.contract_faults(file, text)

@@ -7,8 +7,9 @@ import collections
 import re
 
 PUBLIC = re.compile(r' *(pub (?:extern "C" )?fn \w+.*)')
-CLAUSE = re.compile(r" *ensures { λ \w+\. ⌜ (.*) ⌝ }")
-RENAMED = re.compile(r"^(?:ghost )?use .* as .*\n", re.M)
+CLAUSE = re.compile(r" *ensures (?:\w+ )?({ .* })")
+QUOTED = re.compile(r"(?:(?:requires|ensures) )?(?:\w+ )?{ .* }")
+RENAMED = re.compile(r"^(?:pub |ghost )*use .* as .*\n", re.M)
 RECORD = re.compile(r"^( *)(?:pub )?(?:record|data) .*\n(?:\1 +.*\n|\n)*",
                     re.M)
 PROPOSITION = re.compile(r"^( *)(?:abbrev |unfoldable )?(?:pub )?\S+ :.*"
@@ -44,15 +45,26 @@ def contracts(text):
             yield found[1], contract
 
 
-def clauses(file, text):
-    """Each function's first line, and what is between ⌜ and ⌝. Two methods
+def is_of_a_clause(quoted, text):
+    """Whether what an edit quotes has the form of a clause, or stands in one
+    of any function."""
+    return QUOTED.fullmatch(quoted) or any(
+        quoted in line for line in text.split("\n")
+        if re.match(r" *(requires|ensures)\b", line))
+
+
+def clauses(file, text, whole):
+    """Each function's first line, and each clause's fact in its braces; the
+    clause with its name, where the whole file has the fact twice. Two methods
     with the same first line cannot be quoted by it."""
     yield from lines_of(file, RENAMED.findall(text))
     for head, contract in contracts(text):
         if text.count(head) == 1:
             yield Promise(file, head, re.escape(head))
         for found in filter(None, map(CLAUSE.fullmatch, contract)):
-            yield Promise(file, found[1], re.escape(f"⌜ {found[1]} ⌝"))
+            once = whole.count(found[1]) == 1
+            quoted = found[1] if once else found[0].strip()
+            yield Promise(file, quoted, re.escape(quoted))
 
 
 def statements(file, text, has_code):
