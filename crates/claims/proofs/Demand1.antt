@@ -20,7 +20,7 @@ use Rattle.pack.specs.Sealing.{tests as tests_of_sealing}
 use Rattle.pack.specs.Opening.{tests as tests_of_opening}
 use Rattle.line.specs.Line.{reply_to, answer}
 use Rattle.claims.specs.Demand1.{MessageNumbers, SealingNumbers, OpeningNumbers, Demand1}
-use Rattle.claims.proofs.Keys.{is_key, no_key}
+use Rattle.claims.proofs.Keys.{is_key_lem, no_key}
 use Rattle.claims.proofs.Number9.{line_9_only}
 
 pub refused-left : (number : ℕ) (work lent : List ℕ) → 0 < number → left_by number work lent ≡ lent
@@ -33,21 +33,21 @@ module _ (S : Scheme) (keys : (key : List ℕ) → S.is_key key ≡ is_key key) 
   unfolding tests_of_sealing looks_at
   sealing_numbers = record {
     seal_1 = λ key payload place block k. rw (keys key, no_key key k);
-    seal_7 = λ key payload place block k b. rw (keys key, is_key key k, ne_eqb _ 512 b);
-    seal_5 = λ key payload place block k b u. rw (keys key, is_key key k, b, lt-ltb 496 _ u);
-    seal_6 = λ key payload place block k b u n. rw (keys key, is_key key k, b, le-ltb 496 _ u, lt-ltb 65535 _ n);
-    seal-done = λ key payload place block k b u n. rw (keys key, is_key key k, b, le-ltb 496 _ u, le-ltb 65535 _ n);
+    seal_7 = λ key payload place block k b. rw (keys key, is_key_lem key k, ne_eqb _ 512 b);
+    seal_5 = λ key payload place block k b u. rw (keys key, is_key_lem key k, b, lt-ltb 496 _ u);
+    seal_6 = λ key payload place block k b u n. rw (keys key, is_key_lem key k, b, le-ltb 496 _ u, lt-ltb 65535 _ n);
+    seal-done = λ key payload place block k b u n. rw (keys key, is_key_lem key k, b, le-ltb 496 _ u, le-ltb 65535 _ n);
   }
 
   pub opening_numbers : OpeningNumbers S
   unfolding tests_of_opening looks_at
   opening_numbers = record {
     open_1 = λ key pack place block k. rw (keys key, no_key key k);
-    open_7 = λ key pack place block k b. rw (keys key, is_key key k, ne_eqb _ 512 b);
-    open_6 = λ key pack place block k b n. rw (keys key, is_key key k, b, lt-ltb 65535 _ n);
-    open_8 = λ key pack place block k b n e some. rw (keys key, is_key key k, b, le-ltb 65535 _ n, e, not_zero block some);
-    open_12 = λ key pack place block k b n e zero. rw (keys key, is_key key k, b, le-ltb 65535 _ n, e, zero-told block zero);
-    open_done = λ key pack place block k b n e. (rw (keys key, is_key key k, b, le-ltb 65535 _ n, e), rw (keys key, is_key key k, b, le-ltb 65535 _ n, e));
+    open_7 = λ key pack place block k b. rw (keys key, is_key_lem key k, ne_eqb _ 512 b);
+    open_6 = λ key pack place block k b n. rw (keys key, is_key_lem key k, b, lt-ltb 65535 _ n);
+    open_8 = λ key pack place block k b n e some. rw (keys key, is_key_lem key k, b, le-ltb 65535 _ n, e, not_zero block some);
+    open_12 = λ key pack place block k b n e zero. rw (keys key, is_key_lem key k, b, le-ltb 65535 _ n, e, zero-told block zero);
+    open_done = λ key pack place block k b n e. (rw (keys key, is_key_lem key k, b, le-ltb 65535 _ n, e), rw (keys key, is_key_lem key k, b, le-ltb 65535 _ n, e));
   }
 
   -- And of the calls on messages.
@@ -56,10 +56,10 @@ module _ (S : Scheme) (keys : (key : List ℕ) → S.is_key key ≡ is_key key) 
   unfolding looks_at
   message_numbers least short l = record {
     message_1 = λ key tweak message k. rw (keys key, no_key key k);
-    message_2 = λ key tweak message k t. rw (keys key, is_key key k, ne_eqb _ 16 t);
-    message_short = λ key tweak message k t n. rw (keys key, is_key key k, t, lt-ltb _ least n);
-    message_4 = λ key tweak message k t n. rw (keys key, is_key key k, t, le-ltb (length message) least (omega (arith, n, l)), lt-ltb 4096 _ n);
-    message_done = λ key tweak message k t n m. rw (keys key, is_key key k, t, le-ltb _ least n, le-ltb 4096 _ m);
+    message_2 = λ key tweak message k t. rw (keys key, is_key_lem key k, ne_eqb _ 16 t);
+    message_short = λ key tweak message k t n. rw (keys key, is_key_lem key k, t, lt-ltb _ least n);
+    message_4 = λ key tweak message k t n. rw (keys key, is_key_lem key k, t, le-ltb (length message) least (omega (arith, n, l)), lt-ltb 4096 _ n);
+    message_done = λ key tweak message k t n m. rw (keys key, is_key_lem key k, t, le-ltb _ least n, le-ltb 4096 _ m);
   }
 
 pub demand_1 : Demand1

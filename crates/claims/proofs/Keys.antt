@@ -10,10 +10,10 @@ use lib.ListN.{length}
 use Rattle.primitives.specs.Aes.{is_key}
 use Rattle.claims.specs.Demand1.{IsKey}
 
-pub is_key : (key : List ℕ) → IsKey key → is_key key ≡ true
+pub is_key_lem : (key : List ℕ) → IsKey key → is_key key ≡ true
 unfolding is_key
-is_key key (inl e) = rw e
-is_key key (inr e) = rw e
+is_key_lem key (inl e) = rw e
+is_key_lem key (inr e) = rw e
 
 pub no_key : (key : List ℕ) → (IsKey key → ⊥) → is_key key ≡ false
 unfolding is_key

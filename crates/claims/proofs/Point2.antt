@@ -25,23 +25,23 @@ use Rattle.runs.proofs.Theorems as RunTheorems
 use Rattle.claims.specs.Demand1.{IsKey}
 use Rattle.claims.specs.Point1.{IsPack}
 use Rattle.claims.specs.Point2.{of_sealing, of_opening, of_block, Lent, NoneOver, Payloads, Point2}
-use Rattle.claims.proofs.Keys.{is_key, no_key}
+use Rattle.claims.proofs.Keys.{is_key_lem, no_key}
 use Rattle.claims.proofs.Demand1.{refused-left}
 use Rattle.claims.proofs.Demand3.{hch_tweakable}
 use Rattle.claims.proofs.Point1.{blocks, is_one, not_a_pack}
 
 hch_runs : (key : List ℕ) → IsKey key → Runs hch key
-hch_runs key k = (RunTheorems.theorems).any_cipher hch key (is_key key k) (hch_tweakable key)
+hch_runs key k = (RunTheorems.theorems).any_cipher hch key (is_key_lem key k) (hch_tweakable key)
 
 -- ---- the numbers
 
 not_run_sealing : (key : List ℕ) (first : ℕ) (lengths run : List ℕ) → IsKey key → is_pack run ≡ false → of_sealing key first lengths run ≡ 10
 unfolding tests_of_sealing looks_at
-not_run_sealing key first lengths run k e = rw (is_key key k, e)
+not_run_sealing key first lengths run k e = rw (is_key_lem key k, e)
 
 not_run_opening : (key : List ℕ) (pack first : ℕ) (lengths run : List ℕ) → IsKey key → is_pack run ≡ false → of_opening key pack first lengths run ≡ 10
 unfolding tests_of_opening looks_at
-not_run_opening key pack first lengths run k e = rw (is_key key k, e)
+not_run_opening key pack first lengths run k e = rw (is_key_lem key k, e)
 
 module _ (key : List ℕ) (n first : ℕ) (lengths run : List ℕ) (k : IsKey key) (p : IsPack n run) where
   list_differs : (length lengths ≡ n → ⊥) → length lengths ≡ length run / 512 → ⊥
@@ -49,11 +49,11 @@ module _ (key : List ℕ) (n first : ℕ) (lengths run : List ℕ) (k : IsKey ke
 
   seals_11 : (length lengths ≡ n → ⊥) → of_sealing key first lengths run ≡ 11
   unfolding tests_of_sealing looks_at
-  seals_11 other = rw (is_key key k, is_one n run p, ne_eqb (length lengths) (length run / 512) (list_differs other))
+  seals_11 other = rw (is_key_lem key k, is_one n run p, ne_eqb (length lengths) (length run / 512) (list_differs other))
 
   opens_11 : (pack : ℕ) → (length lengths ≡ n → ⊥) → of_opening key pack first lengths run ≡ 11
   unfolding tests_of_opening looks_at
-  opens_11 pack other = rw (is_key key k, is_one n run p, ne_eqb (length lengths) (length run / 512) (list_differs other))
+  opens_11 pack other = rw (is_key_lem key k, is_one n run p, ne_eqb (length lengths) (length run / 512) (list_differs other))
 
 module _ (key : List ℕ) (n first : ℕ) (lengths run : List ℕ) (l : Lent key n lengths run) where
   count : length run / 512 ≡ n
@@ -66,11 +66,11 @@ module _ (key : List ℕ) (n first : ℕ) (lengths run : List ℕ) (l : Lent key
   pub run_unopened : (pack : ℕ) → Bytes run → first + n - 1 ≤ 65535 → (i : ℕ) → i < n → Unopened hch (answer_of hch key pack first lengths run) key pack first run i
   run_unopened pack b last i h =
       let near : first + length run / 512 - 1 ≤ 65535 = rw count last in
-      (hch_runs key l.0).unopened pack first lengths run b (is_key key l.0) (is_one n run l.1) same_list near i (rw count h)
+      (hch_runs key l.0).unopened pack first lengths run b (is_key_lem key l.0) (is_one n run l.1) same_list near i (rw count h)
 
   seals_5 : (i : ℕ) → 496 < get_or lengths i 0 → of_sealing key first lengths run ≡ 5
   unfolding tests_of_sealing looks_at
-  seals_5 i over = rw (is_key key l.0, is_one n run l.1, eq-eqb (length lengths) (length run / 512) same_list, over_some 496 lengths i over)
+  seals_5 i over = rw (is_key_lem key l.0, is_one n run l.1, eq-eqb (length lengths) (length run / 512) same_list, over_some 496 lengths i over)
 
   within : NoneOver n lengths → some_over 496 lengths ≡ false
   within none = some_over_lem 496 lengths (λ i h. none i (omega (arith, h, l.2)))
@@ -79,26 +79,26 @@ module _ (key : List ℕ) (n first : ℕ) (lengths run : List ℕ) (l : Lent key
   unfolding tests_of_sealing looks_at
   seals_6 none past =
       let far : 65535 < first + length run / 512 - 1 = rw count past in
-      rw (is_key key l.0, is_one n run l.1, eq-eqb (length lengths) (length run / 512) same_list, within none, lt-ltb 65535 (first + length run / 512 - 1) far)
+      rw (is_key_lem key l.0, is_one n run l.1, eq-eqb (length lengths) (length run / 512) same_list, within none, lt-ltb 65535 (first + length run / 512 - 1) far)
 
   sealed : NoneOver n lengths → first + n - 1 ≤ 65535 → of_sealing key first lengths run ≡ 0
   unfolding tests_of_sealing looks_at
   sealed none last =
       let near : first + length run / 512 - 1 ≤ 65535 = rw count last in
-      rw (is_key key l.0, is_one n run l.1, eq-eqb (length lengths) (length run / 512) same_list, within none, le-ltb 65535 (first + length run / 512 - 1) near)
+      rw (is_key_lem key l.0, is_one n run l.1, eq-eqb (length lengths) (length run / 512) same_list, within none, le-ltb 65535 (first + length run / 512 - 1) near)
 
   opens_6 : (pack : ℕ) → 65535 < first + n - 1 → of_opening key pack first lengths run ≡ 6
   unfolding tests_of_opening looks_at
   opens_6 pack past =
       let far : 65535 < first + length run / 512 - 1 = rw count past in
-      rw (is_key key l.0, is_one n run l.1, eq-eqb (length lengths) (length run / 512) same_list, lt-ltb 65535 (first + length run / 512 - 1) far)
+      rw (is_key_lem key l.0, is_one n run l.1, eq-eqb (length lengths) (length run / 512) same_list, lt-ltb 65535 (first + length run / 512 - 1) far)
 
   opened : (pack : ℕ) → first + n - 1 ≤ 65535 → ((i : ℕ) → i < n → of_block key pack first run i ≡ 0) → of_opening key pack first lengths run ≡ 0
   unfolding tests_of_opening looks_at
   opened pack last each =
       let near : first + length run / 512 - 1 ≤ 65535 = rw count last in
       rw (
-        is_key key l.0,
+        is_key_lem key l.0,
         is_one n run l.1,
         eq-eqb (length lengths) (length run / 512) same_list,
         le-ltb 65535 (first + length run / 512 - 1) near,
