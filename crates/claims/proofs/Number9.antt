@@ -35,13 +35,12 @@ written_9 : (n : ℕ) → n < 100 → refusal n ≡ refusal 9 → n ≡ 9
 unfolding refusal decimal
 written_9 n h e = ⊎_elim
     (λ (two : 10 - n ≡ 0).
-    let low : n % 10 < 10 = mod-lt n (lit< tt) in
-    let fifth : 48 + n % 10 ≡ 10 = rw (le-ltb n 10 (omega (arith, two)), lt-ltb (n % 10) 10 low) at (ap (λ (s : List ℕ). get_or s 4 0) e) in
+    let fifth : 48 + n % 10 ≡ 10 = rw (le-ltb n 10 (omega (arith, two))) at (ap (λ (s : List ℕ). get_or s 4 0) e) in
     absurd (omega (arith, fifth)))
     (λ (one : 0 < 10 - n).
     let less : n < 10 = omega (arith, one) in
     let same : n % 10 ≡ n = mod-eq_of_lt less in
-    let fourth : 48 + n ≡ 57 = rw (lt-ltb n 10 less, same, lt-ltb n 10 less) at (ap (λ (s : List ℕ). get_or s 3 0) e) in
+    let fourth : 48 + n ≡ 57 = rw (lt-ltb n 10 less, same) at (ap (λ (s : List ℕ). get_or s 3 0) e) in
     omega (arith, fourth))
     (eq-zero-or-pos (10 - n))
 

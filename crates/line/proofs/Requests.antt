@@ -2,7 +2,7 @@
 -- Assumes nothing.
 use mathlib.Core.Path.{◌≡◌, refl, sym, ◌∙◌}
 use mathlib.Core.Logic.{◌⊎◌, inl, inr, ⊎_elim}
-use mathlib.Core.Bool.{Bool, true, false, cond, ◌&&◌, and_false}
+use mathlib.Core.Bool.{Bool, true, false, cond, ◌&&◌, and-false}
 use mathlib.Core.List.{List, [], ◌∷◌, ◌++◌}
 use Prim.Native.Nat.{ℕ, suc, ◌+◌, ◌-◌, ◌*◌, ◌/◌, ◌≤◌, ◌<◌}
 use native.Mathlib.Nat.{not-suc-le-zero, le_of_suc-le-suc}
@@ -43,9 +43,9 @@ not_hex c [] (a ∷ []) f e = refl
 not_hex c [] (a ∷ b ∷ []) f e = simp e
 not_hex c [] (a ∷ b ∷ d ∷ qs) f e = refl
 not_hex c (a ∷ []) [] f e = refl
-not_hex c (a ∷ []) (b ∷ []) f e = simp (e, and_false)
+not_hex c (a ∷ []) (b ∷ []) f e = simp (e, and-false)
 not_hex c (a ∷ []) (b ∷ d ∷ qs) f e = refl
-not_hex c (a ∷ b ∷ []) [] f e = simp (e, and_false)
+not_hex c (a ∷ b ∷ []) [] f e = simp (e, and-false)
 not_hex c (a ∷ b ∷ []) (d ∷ qs) f e = refl
 not_hex c (a ∷ b ∷ d ∷ []) qs f e = refl
 not_hex c (a ∷ b ∷ d ∷ g ∷ ps) qs f e = refl

@@ -2,13 +2,12 @@
 -- Assumes nothing.
 use mathlib.Core.Path.{◌≡◌, refl, sym, ap, ◌∙◌}
 use mathlib.Core.List.{List, [], ◌∷◌, ◌++◌}
-use Prim.Native.Nat.{ℕ, zero, suc, ◌-◌, ◌*◌, ◌/◌, ◌^◌, ◌≤◌, ◌<◌, min}
-use native.Mathlib.Nat.{not-suc-le-zero, zero-add, pow-le-pow_right}
+use Prim.Native.Nat.{ℕ, zero, suc, ◌+◌, ◌*◌, ◌/◌, ◌%◌, ◌≤◌, ◌<◌, min}
+use native.Mathlib.Nat.{not-suc-le-zero, zero-add}
 use native.Mathlib.Omega.{arith}
 use lib.ListN.{length, take, drop, length-append}
 use lib.Seq.{take_all, take_at}
 use borrow.Author.Tests.{lt-ltb, le-ltb}
-use Rattle.io.specs.Digits.{last_digits, IsDigitCount}
 use Rattle.text.specs.Hex.{hex}
 use Rattle.text.specs.Inner.{fitting, encoded_in}
 use Rattle.text.proofs.Digits.{length-hex}
@@ -50,15 +49,17 @@ encoded_front work out h =
 
 -- ---- a number below 100 in decimal
 
--- the fewest digits of such a number are one or two
-pub fewest : (n k : ℕ) → n < 100 → IsDigitCount 10 1 n k → (k ≤ 2) × (last_digits 10 k n ≡ decimal n)
+pub one_digit : (n : ℕ) → n < 10 → (48 + n) ∷ [] ≡ decimal n
 unfolding decimal
-fewest n zero h (l, u, m) = absurd (omega arith)
-fewest n (suc zero) h (l, u, m) = (omega arith, rw (lt-ltb n 10 (omega arith)))
-fewest n (suc (suc zero)) h (l, u, m) = (omega arith, rw (le-ltb n 10 (m (omega arith))))
-fewest n (suc (suc (suc k))) h (l, u, m) =
-    let three : 10 ^ 2 ≤ 10 ^ (suc (suc (suc k)) - 1) = pow-le-pow_right {n = 10} (omega arith) {i = 2} {j = suc (suc (suc k)) - 1} (omega arith) in
-    absurd (omega (arith, three, m (omega arith)))
+one_digit n h =
+    let same : n % 10 ≡ n = omega arith in
+    rw (lt-ltb n 10 h, same) refl
+
+pub two_digits : (n : ℕ) → 10 ≤ n → n < 100 → (48 + n / 10) ∷ (48 + n % 10) ∷ [] ≡ decimal n
+unfolding decimal
+two_digits n l h =
+    let same : n / 10 % 10 ≡ n / 10 = omega arith in
+    rw (le-ltb n 10 l, same) refl
 
 -- ---- replies
 

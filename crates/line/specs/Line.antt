@@ -1,6 +1,5 @@
 -- One line of `boardline` and its answer. 01, "For the app, and at the desk". A character is a byte: a space is 32, `E` is 69 and `D` is 68.
-use Rattle.std.specs.Prelude.{ℕ, zero, suc, ◌≡◌, cond, ◌&&◌, List, [], ◌∷◌, ◌++◌, leb, ltb, eqb, length, drop}
-use Rattle.io.specs.Digits.{last_digits}
+use Rattle.std.specs.Prelude.{ℕ, zero, suc, ◌+◌, ◌/◌, ◌%◌, ◌≡◌, cond, ◌&&◌, List, [], ◌∷◌, ◌++◌, leb, ltb, eqb, length, drop}
 use Rattle.text.specs.Hex.{hex, is_hex, unhex}
 use Rattle.text.specs.Part.{split}
 use Rattle.hch.specs.Hch.{enciphered, deciphered}
@@ -33,9 +32,14 @@ requested (command ∷ key ∷ tweak ∷ message ∷ more ∷ rest) = Unknown
 unfoldable pub request_of : List ℕ → Request
 request_of line = cond (leb (length line) 8300) (requested (split 32 line)) Unknown
 
+-- The last k decimal digits of a number, the most significant first. The character `0` is 48.
+abbrev pub last_digits : ℕ → ℕ → List ℕ
+last_digits zero n = []
+last_digits (suc k) n = last_digits k (n / 10) ++ (48 + n % 10) ∷ []
+
 -- A number below 100 in decimal.
 unfoldable pub decimal : ℕ → List ℕ
-decimal n = last_digits 10 (cond (ltb n 10) 1 2) n
+decimal n = last_digits (cond (ltb n 10) 1 2) n
 
 -- "`no `, the number in decimal, and a line feed".
 unfoldable pub refusal : ℕ → List ℕ

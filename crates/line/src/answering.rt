@@ -1,8 +1,8 @@
 // One line and its answer.
-ghost use Rattle.std.specs.Prelude.{◌≤◌, ◌<◌, ◌≡◌, [], ◌∷◌, length};
+ghost use Rattle.std.specs.Prelude.{◌≤◌, ◌<◌, ◌≡◌, [], ◌∷◌, length, take};
 ghost use Rattle.text.specs.Hex.{hex};
 ghost use Rattle.text.specs.Part.{split};
-ghost use Rattle.line.specs.Line.{commanded, requested, refusal, reply as reply_of, reply_to, answer as answer_of, Written};
+ghost use Rattle.line.specs.Line.{commanded, requested, decimal as decimal_of, refusal, reply as reply_of, reply_to, answer as answer_of, Written};
 
 use crate::{LONGEST, ROOM};
 use text::hex::Decoded;
@@ -101,10 +101,25 @@ pub(crate) fn refuse(number: u32, out: &mut [u8; ROOM]) -> usize
     requires { number < 100 }
     ensures { Written (refusal number) result out.old out.new }
 {
-    let mut digits = [0u8; 20];
-    let k = io::decimal(number as u64, &mut digits);
+    let mut digits = [0u8; 2];
+    let k = decimal(number, &mut digits);
     strings::places::write(out, 0, b"no ");
     strings::places::write(out, 3, &digits[..k]);
     strings::places::write(out, 3 + k, b"\n");
     4 + k
+}
+
+// Writes a number below 100 in decimal to the front of `digits`, and returns the number of its digits.
+fn decimal(number: u32, digits: &mut [u8; 2]) -> usize
+    requires { number < 100 }
+    ensures upper_bound { result ≤ 2 }
+    ensures digits_after { take result digits.new ≡ decimal_of number }
+{
+    if number < 10 {
+        digits[0] = b'0' + number as u8;
+        return 1;
+    }
+    digits[0] = b'0' + (number / 10) as u8;
+    digits[1] = b'0' + (number % 10) as u8;
+    2
 }

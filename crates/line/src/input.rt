@@ -1,5 +1,7 @@
 // The lines of an input that arrives in chunks. What is kept from chunk to chunk is the line under
 // way: its characters, in `line`, and how many they are, or that there are more than LONGEST.
+ghost use Rattle.std.specs.Prelude.{◌≡◌, length};
+ghost use Rattle.text.specs.Inner.{before};
 ghost use Rattle.line.specs.Line.{Written};
 ghost use Rattle.line.specs.Input.{last_answer};
 ghost use Rattle.line.specs.Inner.{kept_answer, Stepped};
@@ -21,7 +23,7 @@ pub struct Step {
 pub fn next(line: &mut [u8; LONGEST], kept: Kept, rest: &[u8], out: &mut [u8; ROOM]) -> Step
     ensures { Stepped line.old kept rest.now out.old result line.new out.new }
 {
-    let end = bytes::scan::find(rest, 0, rest.len(), b'\n');
+    let end = line_end(rest);
     let more = text::part::append(line, kept, &rest[0..end]);
     if end < rest.len() {
         let written = answer_kept(line, more, out);
@@ -64,4 +66,16 @@ fn answer_kept(line: &[u8], kept: Kept, out: &mut [u8; ROOM]) -> usize
         return crate::answering::refuse(crate::answering::UNKNOWN, out);
     }
     crate::answer(&line[0..n], out)
+}
+
+// The place of the first line feed, or the length of `rest` where there is none.
+fn line_end(rest: &[u8]) -> usize
+    ensures { result ≡ length (before 10 rest.now) }
+{
+    for (i, x) in rest.iter().enumerate() {
+        if *x == b'\n' {
+            return i;
+        }
+    }
+    rest.len()
 }
