@@ -5,9 +5,12 @@
 
 ghost use Rattle.std.specs.Prelude.{◌≤◌, length};
 
-use libc::{STDERR_FILENO, STDIN_FILENO, STDOUT_FILENO};
 use line::{LONGEST, ROOM};
+use std::io::Read;
 use text::part::Kept;
+
+// The most bytes that are read at a time.
+const CHUNK: usize = 65536;
 
 // How the lines of a chunk were answered: with this kept of the line under way, or not, since
 // standard output takes no more.
@@ -17,41 +20,44 @@ enum Went {
     Closed,
 }
 
-// A proved loop has to end, and nothing says that the input does. So the loop counts its turns
-// down, from a number that no run uses up.
-fn main() {
+// A proved loop has to end, and nothing says that the input does. So the loop has a number of turns
+// that no run uses up.
+fn main(rt: HostRuntime) {
     let mut line = [0u8; LONGEST];
     let mut out = [0u8; ROOM];
-    let mut chunk = io::large_buffer();
+    let mut chunk = [0u8; CHUNK];
     let mut kept = Kept::Characters(0);
-    let mut turns = u64::MAX;
-    while turns > 0 {
-        let got = libc::read(STDIN_FILENO, &mut chunk);
-        if got < 0 {
-            io::write_all(STDERR_FILENO, b"boardline: cannot read standard input\n");
+    let mut input = rt.stdin();
+    for _ in 0..u64::MAX {
+        let Ok(n) = input.read(&mut chunk) else {
+            complain(&rt, "boardline: cannot read standard input");
             return;
-        }
-        let n = io::count(got, &chunk);
+        };
         if n == 0 {
             break;
         }
-        let Went::On(next) = answer_lines(&mut line, kept, &chunk[..n], &mut out) else {
+        let Went::On(next) = answer_lines(&rt, &mut line, kept, &chunk[..n], &mut out) else {
             return;
         };
         kept = next;
-        turns -= 1;
     }
     let written = line::last(&line, kept, &mut out);
-    write(&out, written);
+    write(&rt, &out, written);
 }
 
 // Answers each line that ends in the chunk, and goes on with the line under way.
-fn answer_lines(line: &mut [u8; LONGEST], kept: Kept, chunk: &[u8], out: &mut [u8; ROOM]) -> Went {
+fn answer_lines(
+    rt: &(impl Print + Eprint),
+    line: &mut [u8; LONGEST],
+    kept: Kept,
+    chunk: &[u8],
+    out: &mut [u8; ROOM],
+) -> Went {
     let mut kept = kept;
     let mut at = 0;
     while at < chunk.len() {
         let step = line::next(line, kept, &chunk[at..], out);
-        if !write(out, step.written) {
+        if !write(rt, out, step.written) {
             return Went::Closed;
         }
         kept = step.kept;
@@ -61,16 +67,17 @@ fn answer_lines(line: &mut [u8; LONGEST], kept: Kept, chunk: &[u8], out: &mut [u
 }
 
 // Writes the first n bytes, or says on standard error that it cannot.
-fn write(out: &[u8; ROOM], n: usize) -> bool
+fn write(rt: &(impl Print + Eprint), out: &[u8; ROOM], n: usize) -> bool
     requires { n ≤ length out.now }
 {
-    let bytes = &out[..];
-    if io::write_all(STDOUT_FILENO, &bytes[0..n]) {
+    if rt.write_all(&out[..n]).is_ok() {
         return true;
     }
-    io::write_all(
-        STDERR_FILENO,
-        b"boardline: cannot write to standard output\n",
-    );
+    complain(rt, "boardline: cannot write to standard output");
     false
+}
+
+// Says on standard error what failed. Where that cannot be written either, nobody is told.
+fn complain(rt: &impl Eprint, what: &str) {
+    let _ = rt.eprintln(what);
 }
