@@ -15,14 +15,14 @@ use Rattle.pack.specs.Opening.{number_of, values_of, deciphered_block, tests, an
 use Rattle.runs.specs.Opening.{number_of as number_of_run, values_of as values_of_run, in_turn, tests as tests_of_run, answer_of as answer_of_run}
 use Rattle.claims.specs.Demand1.{IsKey, of_opening}
 use Rattle.claims.specs.Point4.{zeros, damaged, unchanged, Point4}
-use Rattle.claims.proofs.Keys.{is_key}
+use Rattle.claims.proofs.Keys.{is_key_lem}
 use Rattle.claims.proofs.Demand1.{demand_1, refused-left}
 use Rattle.claims.proofs.Demand3.{hch_pack}
 use Rattle.claims.proofs.Point2.{run_unopened}
 
 block-unopened : (key : List ℕ) (pack place : ℕ) (C : List ℕ) → IsKey key → OfLength 512 C → place ≤ 65535
     → Unopened hch (of_opening hch key pack place C) key pack place C
-block-unopened key pack place C k h l = (hch_pack key k).unopened pack place C h.1 (is_key key k) h.0 l
+block-unopened key pack place C k h l = (hch_pack key k).unopened pack place C h.1 (is_key_lem key k) h.0 l
 
 zeros-opened : (number_of (answer_of unchanged [] 0 0 zeros) ≡ 0) × (values_of (answer_of unchanged [] 0 0 zeros) ≡ 0 ∷ [])
 unfolding tests looks_at deciphered_block passes used check is_zero equal number bytes
