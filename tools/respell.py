@@ -1,14 +1,15 @@
 #!/usr/bin/env python3
 """Brings the names of this repository's definitions and lemmas to the spelling
-of the Rattle of docs/PORT.md: words in snake case, and a dash only where it
-joins two names, as in `length-bytes`.
+of the Rattle that docs/PORT.md names: words in snake case, and a dash only
+where it joins two names, as in `length-bytes`.
 
 usage: python3 tools/respell.py            in the repository, once, behind the kit's port.py
-       python3 tools/respell.py --list     prints the table and changes nothing
+       python3 tools/respell.py --list     prints the old and the new names and changes nothing
 
 Types, modules and the papers' own letters and names keep their spelling, and
-so do the functions of src/. Each old name has one new name, the same in every
-crate; no two old names get one new name.
+so do the functions of src/ and what the library names. Each old name has one
+new name, the same in every crate, and no two names fall together: a lemma that
+would bear the name of something else gets `_lem`.
 """
 
 import pathlib
@@ -16,103 +17,88 @@ import re
 import sys
 
 ROOT = pathlib.Path(__file__).resolve().parents[1]
-PROOF_FILES = ("Proof.antt", "Invariants.antt", "Answers.antt")
+PROOFS = ("Proof.antt", "Invariants.antt", "Answers.antt")
 TOKEN = re.compile(r"[^\s(){}.,;:`\"«»\[\]&*|]+")
-SIGNATURE = re.compile(r"\s*(?:abbrev |unfoldable |pub )*(?:(?:ruleset|record|data)\s+)?([^\s:(){}=,.]+)\s*[:=({](?!=)")
-
-# Words of the library's own, which a dash may join to another name.
-NAMES = set("""length take drop append map zero suc number bytes blocks add mul sub xor sum count power product string pad bin masked reduced
-""".split())
-
-def files():
-    for path in sorted((ROOT / "crates").rglob("*")):
-        if path.suffix in (".rt", ".antt") and "out" not in path.relative_to(ROOT).parts:
-            yield path
-
-
-def lemma_files():
-    return [p for p in files() if p.suffix == ".antt" and p.name not in PROOF_FILES]
-
-
-def defined():
-    found = set()
-    for path in lemma_files():
-        for line in path.read_text().splitlines():
-            if line.lstrip().startswith(("--", "use ", "pub use ", "let ", "pub mod", "mod ", "module ", "open ", "unfolding", "infix")):
-                continue
-            match = SIGNATURE.match(line)
-            if match:
-                found.add(match[1])
-    return found
+USE = re.compile(r"^(?:pub |ghost )*use ([\w.+-]+)\.\{([^}]*)\}", re.M)
+ALIAS = re.compile(r" as ([a-z][\w'-]*)")
+NOT_DEFINING = ("--", "use ", "pub use ", "let ", "pub mod ", "mod ",
+                "module ", "open ", "unfolding ", "infix")
+SIGNATURE = re.compile(r"\s*((?:abbrev |unfoldable |pub )*)"
+                       r"(?:(?:ruleset|record|data)\s+)?"
+                       r"([^\s:(){}=,.]+)\s*[:=({](?!=)")
+# Functions of the library that a dash may join to one of ours.
+LIBRARY = {"append", "drop", "get_or", "length", "take"}
 
 
 def snake(word):
-    """Camel case to snake case; the papers' capitals at the front stay."""
-    if word[:1].isupper():
-        return word
-    return re.sub(r"([a-z0-9'₀-₉])([A-Z])", lambda m: m[1] + "_" + m[2].lower(), word)
+    """Camel case to snake case."""
+    return re.sub(r"(?<=[\w'])[A-Z]", lambda m: f"_{m[0].lower()}",
+                  word.replace("getD", "get_or"))
 
 
-def imported():
-    """Names that some file has from the library, which are not ours."""
-    found = set()
-    for path in files():
-        for origin, names in re.findall(r"^(?:pub |ghost )*use ([\w.]+)\.\{([^}]*)\}", path.read_text(), re.M):
-            if not origin.startswith("Rattle.") or origin.startswith("Rattle.std."):
-                found |= {n.strip().split(" as ")[0] for n in names.split(",")}
-    return found
+class Names:
+    """What the files define, name and bring in."""
 
+    def __init__(self):
+        self.texts = {
+            path: path.read_text() for path in sorted(ROOT.glob("crates/**/*"))
+            if path.suffix in (".rt", ".antt") and "out" not in path.parts}
+        self.defined, self.functions_of_specs = set(), set()
+        self.library, self.functions = set(), set()
+        for path, text in self.texts.items():
+            if path.suffix == ".rt":
+                self.functions |= set(re.findall(r"\bfn ([a-z0-9_]+)", text))
+            elif len(path.relative_to(ROOT).parts) == 4:
+                self._read(path, text)
+            for origin, names in USE.findall(text):
+                if re.match(r"(?!Rattle\.)|Rattle\.std\.", origin):
+                    self.library |= {name.strip().split(" as ")[0]
+                                     for name in names.split(",")}
 
-def functions():
-    found = set()
-    for path in files():
-        if path.suffix == ".rt":
-            found |= set(re.findall(r"\bfn ([a-z0-9_]+)", path.read_text()))
-    return found
+    def _read(self, path, text):
+        for line in text.splitlines():
+            match = SIGNATURE.match(line)
+            if match and not line.lstrip().startswith(NOT_DEFINING):
+                self.defined.add(match[2])
+                if path.parent.name == "specs" and re.match(
+                        "abbrev|unfoldable", match[1]):
+                    self.functions_of_specs.add(snake(match[2]))
 
-
-ALIAS = re.compile(r" as ([a-z][\w'-]*)")
-
-
-def aliases(text):
-    """Old names to new ones of what a file has under another name."""
-    return {name: snake(name.replace("-", "_")) for name in ALIAS.findall(text)}
-
-
-def table():
-    """Old names to new ones: words in camel case first, since a lemma that would fall together with another name gets `_lem`."""
-    names = {n for n in defined() - imported() if n[:1].isalpha() and not n[:1].isupper()}
-    plain = {n for n in names if "-" not in n}
-    words = NAMES | plain | {snake(n) for n in plain}
-    result = {n: snake(n) for n in sorted(plain) if snake(n) != n}
-    taken = names | set(result.values()) | functions()
-    for name in sorted(names - plain):
-        parts = [snake(p) for p in name.split("-")]
-        joins = all(p in words for p in parts)
-        new = ("-" if joins else "_").join(parts)
-        if new != name and new in taken:
-            new += "_lem"
-        if new != name:
-            assert new not in taken, new
+    def table(self):
+        """Old names to new ones, those in camel case first."""
+        names = {name for name in self.defined - self.library
+                 if name[:1].isalpha() and not name[:1].isupper()}
+        plain = {name for name in names if "-" not in name}
+        result = {name: snake(name) for name in sorted(plain)
+                  if snake(name) != name}
+        joined = self.functions_of_specs | LIBRARY
+        taken = plain | set(result.values()) | self.functions
+        for name in sorted(names - plain):
+            parts = [snake(part) for part in name.split("-")]
+            joins = len(parts) == 2 and joined.issuperset(parts)
+            new = ("-" if joins else "_").join(parts)
+            if not joins and new in taken:
+                new += "_lem"
             taken.add(new)
-            result[name] = new
-    return result
+            if new != name:
+                result[name] = new
+        return result
 
 
 def main():
-    new_names = table()
+    names = Names()
+    table = names.table()
     if sys.argv[1:] == ["--list"]:
-        for old, new in new_names.items():
+        for old, new in table.items():
             print(old, new)
-        return 0
-    for path in files():
-        text = path.read_text()
-        names = aliases(text) | new_names
-        turned = TOKEN.sub(lambda m: names.get(m[0], m[0]), text)
+        return
+    for path, text in names.texts.items():
+        here = {name: snake(name.replace("-", "_"))
+                for name in ALIAS.findall(text)} | table
+        turned = TOKEN.sub(lambda m: here.get(m[0], m[0]), text)
         if turned != text:
             path.write_text(turned)
-    return 0
 
 
 if __name__ == "__main__":
-    raise SystemExit(main())
+    main()

@@ -11,7 +11,7 @@ use lib.ListN.{length, get_or, drop, set, length-append}
 use lib.Seq.{get_or-drop, drop-drop, take_all}
 use Rattle.strings.specs.Bytes.{Below, Bytes, OfLength, number, bytes}
 use Rattle.strings.specs.Inner.{padded, overwrite}
-use Rattle.strings.proofs.Bytes.{below-drop, length-bytes, number-bytes, bytes-number, length-padded, padded-below, padded-add, padded-take}
+use Rattle.strings.proofs.Bytes.{below_drop, length-bytes, number-bytes, bytes-number, length-padded, padded_below, padded_add, padded-take}
 use Rattle.strings.proofs.Table.{table}
 use Rattle.strings.proofs.Place.{bytes_join, overwrite_nil, overwrite_cons}
 use Rattle.blocks.specs.Inner.{of_words}
@@ -52,21 +52,21 @@ unfolding padded
 four_bytes at s = simp (get_or-drop, drop-drop, add-zero, add_assoc)
 
 word_read : (at : ℕ) (s : List ℕ) → Bytes s → bytes 4 (number (padded 4 (drop at s))) ≡ padded 4 (drop at s)
-word_read at s h = rw length-padded at (bytes-number (padded 4 (drop at s)) (padded-below 4 (drop at s) (below-drop at s h)))
+word_read at s h = rw length-padded at (bytes-number (padded 4 (drop at s)) (padded_below 4 (drop at s) (below_drop at s h)))
 
 pub words_read : (at : ℕ) (s : List ℕ) → Bytes s
     → of_words (number (padded 4 (drop at s)) ∷ number (padded 4 (drop (at + 4) s)) ∷ number (padded 4 (drop (at + 8) s)) ∷ number (padded 4 (drop (at + 12) s)) ∷ [])
     ≡ padded 16 (drop at s)
 unfolding of_words
 words_read at s h =
-    rw (word_read at s h, word_read (at + 4) s h, word_read (at + 8) s h, word_read (at + 12) s h, padded-add 8 8 (drop at s))
-    (simp (padded-add 4 4, drop-drop, add_assoc))
+    rw (word_read at s h, word_read (at + 4) s h, word_read (at + 8) s h, word_read (at + 12) s h, padded_add 8 8 (drop at s))
+    (simp (padded_add 4 4, drop-drop, add_assoc))
 
 -- Words that are written: four bytes each, the last first, and four of them.
-pub word-written : (at w : ℕ) (s : List ℕ)
+pub word_written : (at w : ℕ) (s : List ℕ)
     → set (set (set (set s (at + 3) (get_or (bytes 4 w) 3 0)) (at + 2) (get_or (bytes 4 w) 2 0)) (at + 1) (get_or (bytes 4 w) 1 0)) at (get_or (bytes 4 w) 0 0) ≡ overwrite at (bytes 4 w) s
 unfolding bytes
-word-written at w s = simp (overwrite_cons, overwrite_nil, ← add-one, add_assoc)
+word_written at w s = simp (overwrite_cons, overwrite_nil, ← add-one, add_assoc)
 
 overwrite_back : (i : ℕ) (t u s : List ℕ) → overwrite i (t ++ u) s ≡ overwrite i t (overwrite (i + length t) u s)
 overwrite_back i [] u s = rw (add-zero, overwrite_nil i (overwrite i u s))

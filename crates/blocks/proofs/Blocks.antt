@@ -11,27 +11,27 @@ use lib.ListN.{length, take, drop, length-drop}
 use lib.Seq.{drop-drop, take_all, length-take-le}
 use Rattle.strings.specs.Bytes.{Below, Bytes, number}
 use Rattle.strings.specs.Inner.{padded}
-use Rattle.strings.proofs.Bytes.{below-drop, number-below, number_append, length-padded, padded-below, padded-add, take-zeros}
+use Rattle.strings.proofs.Bytes.{below_drop, number_below, number_append, length-padded, padded_below, padded_add, take-zeros}
 use Rattle.strings.proofs.Place.{number_fits}
 use Rattle.blocks.specs.Blocks.{IsBlock, bin, pad, first_block, cut, blocks}
 
-pub bin-below : (l : ℕ) → IsBlock (bin l)
+pub bin_below : (l : ℕ) → IsBlock (bin l)
 unfolding bin
-bin-below l = mod-lt l (pow_pos 128)
+bin_below l = mod-lt l (pow_pos 128)
 
-pub block-padded : (s : List ℕ) → first_block s ≡ number (padded 16 s)
+pub block_padded : (s : List ℕ) → first_block s ≡ number (padded 16 s)
 unfolding first_block pad
-block-padded s = ap number (take-zeros 16 s)
+block_padded s = ap number (take-zeros 16 s)
 
-pub block-first : (s : List ℕ) → 16 ≤ length s → first_block s ≡ number (take 16 s)
+pub block_first : (s : List ℕ) → 16 ≤ length s → first_block s ≡ number (take 16 s)
 unfolding first_block pad
-block-first s h = ap number (rw (length-take-le 16 s h, append-nil))
+block_first s h = ap number (rw (length-take-le 16 s h, append-nil))
 
-pub block-whole : (s : List ℕ) → length s ≡ 16 → first_block s ≡ number s
-block-whole s h = rw (block-first s (omega (arith, h)), take_all 16 s (omega (arith, h)))
+pub block_whole : (s : List ℕ) → length s ≡ 16 → first_block s ≡ number s
+block_whole s h = rw (block_first s (omega (arith, h)), take_all 16 s (omega (arith, h)))
 
-pub block-below : (s : List ℕ) → Bytes s → first_block s < 2 ^ 128
-block-below s h = rw (block-padded s) (rw length-padded at (number-below (padded 16 s) (padded-below 16 s h)))
+pub block_below : (s : List ℕ) → Bytes s → first_block s < 2 ^ 128
+block_below s h = rw (block_padded s) (rw length-padded at (number_below (padded 16 s) (padded_below 16 s h)))
 
 -- A string's blocks.
 pub blocks_nil : blocks [] ≡ []
@@ -56,12 +56,12 @@ length-blocks s = length_cut ((length s + 15) / 16) s
 cut_below : (m : ℕ) (s : List ℕ) → Bytes s → Below (2 ^ 128) (cut m s)
 unfolding cut
 cut_below zero s h i = pow_pos 128
-cut_below (suc m) s h zero = block-below s h
-cut_below (suc m) s h (suc i) = cut_below m (drop 16 s) (below-drop 16 s h) i
+cut_below (suc m) s h zero = block_below s h
+cut_below (suc m) s h (suc i) = cut_below m (drop 16 s) (below_drop 16 s h) i
 
-pub blocks-below : (s : List ℕ) → Bytes s → Below (2 ^ 128) (blocks s)
+pub blocks_below : (s : List ℕ) → Bytes s → Below (2 ^ 128) (blocks s)
 unfolding blocks
-blocks-below s h = cut_below ((length s + 15) / 16) s h
+blocks_below s h = cut_below ((length s + 15) / 16) s h
 
 -- A block is its two halves: the number of its first 8 bytes, and that of all 16 cut to 64 digits.
 pub join_halves : (at : ℕ) (s : List ℕ) → Bytes s
@@ -70,5 +70,5 @@ join_halves at s h =
     let t = drop at s in
     let high = number (padded 8 t) in
     let low = number (padded 8 (drop (at + 8) s)) in
-    let both : number (padded 16 t) ≡ high * 2 ^ 64 + low = rw (padded-add 8 8 t, number_append, length-padded, drop-drop) in
-    rw (block-padded, both, mod-eq_of_lt (number_fits 8 8 at s h (omega arith)), digits_mod high (number_fits 8 8 (at + 8) s h (omega arith)))
+    let both : number (padded 16 t) ≡ high * 2 ^ 64 + low = rw (padded_add 8 8 t, number_append, length-padded, drop-drop) in
+    rw (block_padded, both, mod-eq_of_lt (number_fits 8 8 at s h (omega arith)), digits_mod high (number_fits 8 8 (at + 8) s h (omega arith)))

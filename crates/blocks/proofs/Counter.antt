@@ -13,8 +13,8 @@ use Rattle.blocks.specs.Blocks.{first_block, cut, blocks, string}
 use Rattle.strings.specs.Cipher.{Cipher}
 use Rattle.blocks.specs.Counter.{masked, masked_bytes}
 use Rattle.strings.specs.Inner.{padded}
-use Rattle.strings.proofs.Bytes.{below-append, below-drop, below-take, length-bytes, bytes_below, bytes-number, bytes-xor, xor_bytes_cancel, xor_bytes-append, take-xor_bytes, length-padded, padded-below, padded-add, take-padded, take-append}
-use Rattle.blocks.proofs.Blocks.{block-padded, blocks_cons, length-blocks}
+use Rattle.strings.proofs.Bytes.{below_append, below_drop, below_take, length-bytes, bytes_below, bytes-number, bytes_xor, xor_bytes_cancel, xor_bytes-append, take-xor_bytes, length-padded, padded_below, padded_add, take-padded, take-append}
+use Rattle.blocks.proofs.Blocks.{block_padded, blocks_cons, length-blocks}
 use Rattle.strings.proofs.Place.{take-overwrite, drop-overwrite}
 
 -- Blocks as a string.
@@ -23,20 +23,20 @@ unfolding string
 length-string [] = refl
 length-string (b ∷ bs) = rw (length-append, length-bytes, length-string bs) (omega arith)
 
-string-below : (bs : List ℕ) → Bytes (string bs)
+string_below : (bs : List ℕ) → Bytes (string bs)
 unfolding string
-string-below [] i = omega arith
-string-below (b ∷ bs) i = below-append (bytes 16 b) (string bs) (bytes_below 16 b) (string-below bs) i
+string_below [] i = omega arith
+string_below (b ∷ bs) i = below_append (bytes 16 b) (string bs) (bytes_below 16 b) (string_below bs) i
 
-block-bytes : (s : List ℕ) → Bytes s → bytes 16 (first_block s) ≡ padded 16 s
-block-bytes s h = rw block-padded (rw length-padded at (bytes-number (padded 16 s) (padded-below 16 s h)))
+block_bytes : (s : List ℕ) → Bytes s → bytes 16 (first_block s) ≡ padded 16 s
+block_bytes s h = rw block_padded (rw length-padded at (bytes-number (padded 16 s) (padded_below 16 s h)))
 
 string-cut : (m : ℕ) (s : List ℕ) → Bytes s → string (cut m s) ≡ padded (16 * m) s
 unfolding string cut padded
 string-cut zero s h = refl
 string-cut (suc m) s h =
     let e : 16 * suc m ≡ 16 + 16 * m = omega arith in
-    rw (block-bytes s h, string-cut m (drop 16 s) (below-drop 16 s h), e, padded-add 16 (16 * m) s)
+    rw (block_bytes s h, string-cut m (drop 16 s) (below_drop 16 s h), e, padded_add 16 (16 * m) s)
 
 string-blocks : (s : List ℕ) → Bytes s → take (length s) (string (blocks s)) ≡ s
 unfolding blocks
@@ -54,13 +54,13 @@ module _ (mask : ℕ → ℕ) where
   string-masked i (A ∷ As) =
       rw (
         string-masked (suc i) As,
-        bytes-xor 16 A (mask i),
+        bytes_xor 16 A (mask i),
         xor_bytes-append (bytes 16 A) (bytes 16 (mask i)) (string As) (stream (suc i) (length As)) (rw (length-bytes 16 A, length-bytes 16 (mask i))),
       )
 
-  masked-stream : (i : ℕ) (s : List ℕ) → Bytes s → masked_bytes mask i s ≡ xor_bytes s (stream i ((length s + 15) / 16))
+  masked_stream : (i : ℕ) (s : List ℕ) → Bytes s → masked_bytes mask i s ≡ xor_bytes s (stream i ((length s + 15) / 16))
   unfolding masked_bytes
-  masked-stream i s h = rw (string-masked, length-blocks, take-xor_bytes, string-blocks s h)
+  masked_stream i s h = rw (string-masked, length-blocks, take-xor_bytes, string-blocks s h)
 
   length_masked_list : (i : ℕ) (As : List ℕ) → length (masked mask i As) ≡ length As
   unfolding masked
@@ -73,11 +73,11 @@ module _ (mask : ℕ → ℕ) where
 
   masked_below : (i : ℕ) (s : List ℕ) → Bytes (masked_bytes mask i s)
   unfolding masked_bytes
-  masked_below i s = below-take (length s) (string (masked mask i (blocks s))) (string-below (masked mask i (blocks s)))
+  masked_below i s = below_take (length s) (string (masked mask i (blocks s))) (string_below (masked mask i (blocks s)))
 
   masked-masked : (i : ℕ) (s : List ℕ) → Bytes s → masked_bytes mask i (masked_bytes mask i s) ≡ s
   masked-masked i s h =
-      rw (masked-stream i (masked_bytes mask i s) (masked_below i s), length-masked i s, masked-stream i s h)
+      rw (masked_stream i (masked_bytes mask i s) (masked_below i s), length-masked i s, masked_stream i s h)
       (xor_bytes_cancel s (stream i ((length s + 15) / 16)))
 
   -- Counter mode is a cipher of n bytes, and its own inverse.
@@ -85,7 +85,7 @@ module _ (mask : ℕ → ℕ) where
   counter_cipher i n =
       let keeps : (s : List ℕ) → OfLength n s → OfLength n (masked_bytes mask i s) = λ s h. (rw (length-masked i s) h.0, masked_below i s) in
       let undone : (s : List ℕ) → OfLength n s → masked_bytes mask i (masked_bytes mask i s) ≡ s = λ s h. masked-masked i s h.1 in
-      record { keeps = keeps; inverse-keeps = keeps; undone = undone; undoes = undone }
+      record { keeps = keeps; inverse_keeps = keeps; undone = undone; undoes = undone }
 
   -- Block by block.
   pub masked_nil : (i : ℕ) → masked_bytes mask i [] ≡ []

@@ -12,7 +12,7 @@ use Rattle.strings.specs.Bytes.{Below}
 use Rattle.blocks.specs.Blocks.{first_block, blocks}
 use Rattle.blocks.specs.Field.{power, power_sum, Ring}
 use Rattle.blocks.specs.Inner.{horner}
-use Rattle.strings.proofs.Xor.{xor_assoc, xor_below, xor-zero, xor_zero_left}
+use Rattle.strings.proofs.Xor.{xor_assoc, xor_below, xor_zero, xor_zero_left}
 use Rattle.blocks.proofs.Blocks.{blocks_cons}
 
 module _ {k one : ℕ} {◌·◌ : ℕ → ℕ → ℕ} (ring : Ring k one ◌·◌) where
@@ -22,22 +22,22 @@ module _ {k one : ℕ} {◌·◌ : ℕ → ℕ → ℕ} (ring : Ring k one ◌·
   power_below R zero h = ring.one_below
   power_below R (suc n) h = ring.below R (power one ◌·◌ R n) h
 
-  pub power-sum-below : (R : ℕ) → R < 2 ^ k → (As : List ℕ) → Below (2 ^ k) As → power_sum one ◌·◌ R As < 2 ^ k
+  pub power_sum_below : (R : ℕ) → R < 2 ^ k → (As : List ℕ) → Below (2 ^ k) As → power_sum one ◌·◌ R As < 2 ^ k
   unfolding power_sum
-  power-sum-below R hR [] h = pow_pos k
-  power-sum-below R hR (A ∷ As) h =
-      xor_below k (ring.below A (power one ◌·◌ R (suc (length As))) (h 0)) (power-sum-below R hR As (λ i. h (suc i)))
+  power_sum_below R hR [] h = pow_pos k
+  power_sum_below R hR (A ∷ As) h =
+      xor_below k (ring.below A (power one ◌·◌ R (suc (length As))) (h 0)) (power_sum_below R hR As (λ i. h (suc i)))
 
   -- what there is gets one power of R for each block that follows
-  horner-from : (R : ℕ) → R < 2 ^ k → (sum : ℕ) (As : List ℕ) → sum < 2 ^ k → Below (2 ^ k) As
+  horner_from : (R : ℕ) → R < 2 ^ k → (sum : ℕ) (As : List ℕ) → sum < 2 ^ k → Below (2 ^ k) As
       → horner ◌·◌ R sum As ≡ sum · power one ◌·◌ R (length As) ⊕ power_sum one ◌·◌ R As
   unfolding horner power_sum power
-  horner-from R hR sum [] hs h = sym (xor-zero (sum · one) ∙ ring.one_right sum hs)
-  horner-from R hR sum (A ∷ As) hs h =
+  horner_from R hR sum [] hs h = sym (xor_zero (sum · one) ∙ ring.one_right sum hs)
+  horner_from R hR sum (A ∷ As) hs h =
       let t : ℕ = sum ⊕ A in
       let ht : t < 2 ^ k = xor_below k hs (h 0) in
       let Rⁿ : ℕ = power one ◌·◌ R (length As) in
-      horner-from R hR (t · R) As (ring.below t R ht) (λ i. h (suc i))
+      horner_from R hR (t · R) As (ring.below t R ht) (λ i. h (suc i))
       ∙ ap (λ (x : ℕ). x ⊕ power_sum one ◌·◌ R As)
       (ring.assoc t R Rⁿ ht hR (power_below R (length As) hR) ∙ ring.add_left sum A (R · Rⁿ))
       ∙ xor_assoc (sum · (R · Rⁿ)) (A · (R · Rⁿ)) (power_sum one ◌·◌ R As)
@@ -45,7 +45,7 @@ module _ {k one : ℕ} {◌·◌ : ℕ → ℕ → ℕ} (ring : Ring k one ◌·
   pub horner_rule : (R : ℕ) → R < 2 ^ k → (As : List ℕ) → Below (2 ^ k) As → horner ◌·◌ R 0 As ≡ power_sum one ◌·◌ R As
   horner_rule R hR As h =
       let Rⁿ : ℕ = power one ◌·◌ R (length As) in
-      horner-from R hR 0 As (pow_pos k) h
+      horner_from R hR 0 As (pow_pos k) h
       ∙ ap (λ (x : ℕ). x ⊕ power_sum one ◌·◌ R As) (ring.zero_left Rⁿ) ∙ xor_zero_left (power_sum one ◌·◌ R As)
 
   -- two blocks at once

@@ -21,7 +21,7 @@ pub shorter : (n : ℕ) → 1 ≤ n → Shorter n (largest_power n)
 shorter n l =
     let b = between n l in
     let k : ℕ = largest_power n in
-    let positive : 0 < k = omega (arith, b.twice-above) in
+    let positive : 0 < k = omega (arith, b.twice_above) in
     record { within = b.not_above; before = omega (arith, positive, b.not_above); behind = omega (arith, positive, b.not_above) }
 
 impossible : (n : ℕ) → 4 ≤ n → n < 4 → ⊥
@@ -81,39 +81,39 @@ module _ (◌·◌ : ℕ → ℕ → ℕ) (t : ℕ) (tᵏ : ℕ → ℕ) where
 
 -- ---- the number of products
 
-products-enough : (d e n : ℕ) → n ≤ d → n ≤ e → products_within d n ≡ products_within e n
+products_enough : (d e n : ℕ) → n ≤ d → n ≤ e → products_within d n ≡ products_within e n
 unfolding products_within
-products-enough zero zero n h l = refl
-products-enough zero (suc e) zero h l = refl
-products-enough zero (suc e) (suc n) h l = absurd (not-suc-le-zero h)
-products-enough (suc d) zero zero h l = refl
-products-enough (suc d) zero (suc n) h l = absurd (not-suc-le-zero l)
-products-enough (suc d) (suc e) zero h l = refl
-products-enough (suc d) (suc e) (suc zero) h l = refl
-products-enough (suc d) (suc e) (suc (suc zero)) h l = refl
-products-enough (suc d) (suc e) (suc (suc (suc zero))) h l = refl
-products-enough (suc d) (suc e) (suc (suc (suc (suc n)))) h l =
+products_enough zero zero n h l = refl
+products_enough zero (suc e) zero h l = refl
+products_enough zero (suc e) (suc n) h l = absurd (not-suc-le-zero h)
+products_enough (suc d) zero zero h l = refl
+products_enough (suc d) zero (suc n) h l = absurd (not-suc-le-zero l)
+products_enough (suc d) (suc e) zero h l = refl
+products_enough (suc d) (suc e) (suc zero) h l = refl
+products_enough (suc d) (suc e) (suc (suc zero)) h l = refl
+products_enough (suc d) (suc e) (suc (suc (suc zero))) h l = refl
+products_enough (suc d) (suc e) (suc (suc (suc (suc n)))) h l =
     let m : ℕ = suc (suc (suc (suc n))) in
     let k : ℕ = largest_power m in
     let s = shorter m (omega arith) in
     rw (
-      products-enough d e (k - 1) (omega (arith, s.before, h)) (omega (arith, s.before, l)),
-      products-enough d e (m - k) (omega (arith, s.behind, h)) (omega (arith, s.behind, l)),
+      products_enough d e (k - 1) (omega (arith, s.before, h)) (omega (arith, s.before, l)),
+      products_enough d e (m - k) (omega (arith, s.behind, h)) (omega (arith, s.behind, l)),
     )
 
-pub products-more : (m : ℕ) → 4 ≤ m → let k = largest_power m in products m ≡ products (k - 1) + 1 + products (m - k)
+pub products_more : (m : ℕ) → 4 ≤ m → let k = largest_power m in products m ≡ products (k - 1) + 1 + products (m - k)
 unfolding products products_within
-products-more zero h = absurd (not-suc-le-zero h)
-products-more (suc zero) h = absurd (impossible 1 h (omega arith))
-products-more (suc (suc zero)) h = absurd (impossible 2 h (omega arith))
-products-more (suc (suc (suc zero))) h = absurd (impossible 3 h (omega arith))
-products-more (suc (suc (suc (suc n)))) h =
+products_more zero h = absurd (not-suc-le-zero h)
+products_more (suc zero) h = absurd (impossible 1 h (omega arith))
+products_more (suc (suc zero)) h = absurd (impossible 2 h (omega arith))
+products_more (suc (suc (suc zero))) h = absurd (impossible 3 h (omega arith))
+products_more (suc (suc (suc (suc n)))) h =
     let m : ℕ = suc (suc (suc (suc n))) in
     let k : ℕ = largest_power m in
     let s = shorter m (omega arith) in
     rw (
-      products-enough (suc (suc (suc n))) (k - 1) (k - 1) (omega (arith, s.before)) (le_refl _),
-      products-enough (suc (suc (suc n))) (m - k) (m - k) (omega (arith, s.behind)) (le_refl _),
+      products_enough (suc (suc (suc n))) (k - 1) (k - 1) (omega (arith, s.before)) (le_refl _),
+      products_enough (suc (suc (suc n))) (m - k) (m - k) (omega (arith, s.behind)) (le_refl _),
     )
 
 -- A power of two that is at least 2 is even, so that the products before the kth block, the one with it and those behind it are half of all.
@@ -137,7 +137,7 @@ half_within (suc d) (suc (suc (suc (suc n)))) h =
     let k : ℕ = largest_power m in
     let s = shorter m (omega arith) in
     let b = between m (omega arith) in
-    let two : 2 ≤ k = omega (arith, b.twice-above) in
+    let two : 2 ≤ k = omega (arith, b.twice_above) in
     let even : k % 2 ≡ 0 = rw b.is_power (even_power b.exponent (rw b.is_power at two)) in
     rw (half_within d (k - 1) (omega (arith, s.before, h)), half_within d (m - k) (omega (arith, s.behind, h))) (halves m k even two s.within)
 

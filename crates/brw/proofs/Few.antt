@@ -30,8 +30,8 @@ two_blocks : (s : List ℕ) → 16 < length s → length s ≤ 32 → blocks s �
 two_blocks s h l =
     rw (blocks_cons s (omega (arith, h)), one_block (drop 16 s) (rw length-drop (omega (arith, h))) (rw length-drop (omega (arith, l))))
 
-three-blocks : (s : List ℕ) → 32 < length s → length s ≤ 48 → blocks s ≡ first_block s ∷ first_block (drop 16 s) ∷ first_block (drop 32 s) ∷ []
-three-blocks s h l =
+three_blocks : (s : List ℕ) → 32 < length s → length s ≤ 48 → blocks s ≡ first_block s ∷ first_block (drop 16 s) ∷ first_block (drop 32 s) ∷ []
+three_blocks s h l =
     rw (
       blocks_cons s (omega (arith, h)),
       two_blocks (drop 16 s) (rw length-drop (omega (arith, h))) (rw length-drop (omega (arith, l))),
@@ -47,11 +47,11 @@ pub two : (words s : List ℕ) → 16 < length s → length s ≤ 32 → Evaluat
 unfolding lent_polynomial polynomial products products_within
 two words s h l = rw (two_blocks s h l) (refl, refl)
 
-second-power : (words : List ℕ) → lent_power words 2 ≡ power_at words 1
+second_power : (words : List ℕ) → lent_power words 2 ≡ power_at words 1
 unfolding lent_power exponent_of count_leading_zeros
-second-power words = refl
+second_power words = refl
 
 pub three : (words s : List ℕ) → 32 < length s → length s ≤ 48
     → Evaluates words s ((power_at words 0 ⊕ first_block s) · (power_at words 1 ⊕ first_block (drop 16 s)) ⊕ first_block (drop 32 s)) 1
 unfolding lent_polynomial polynomial products products_within
-three words s h l = rw (three-blocks s h l, second-power words) (refl, refl)
+three words s h l = rw (three_blocks s h l, second_power words) (refl, refl)

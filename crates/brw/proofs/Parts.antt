@@ -30,8 +30,8 @@ first_taken : (n : ℕ) (s : List ℕ) → 16 ≤ n → first_block (take n s) �
 unfolding first_block
 first_taken n s h = rw (take-take 16 n s h)
 
-drop-taken : (n : ℕ) (s : List ℕ) → 16 ≤ length s → drop 16 (take (16 + n) s) ≡ take n (drop 16 s)
-drop-taken n s h = rw (take-add 16 n s) (drop_at (take 16 s) (take n (drop 16 s)) 16 (length-take-le 16 s h))
+drop_taken : (n : ℕ) (s : List ℕ) → 16 ≤ length s → drop 16 (take (16 + n) s) ≡ take n (drop 16 s)
+drop_taken n s h = rw (take-add 16 n s) (drop_at (take 16 s) (take n (drop 16 s)) 16 (length-take-le 16 s h))
 
 pub blocks-take : (j : ℕ) (s : List ℕ) → 16 * j ≤ length s → blocks (take (16 * j) s) ≡ take j (blocks s)
 blocks-take zero s h = blocks_nil
@@ -41,4 +41,4 @@ blocks-take (suc j) s h =
     let t : List ℕ = take (16 + 16 * j) s in
     let some : 0 < length t = rw (length-take-le (16 + 16 * j) s l) (omega arith) in
     let rest : blocks (take (16 * j) (drop 16 s)) ≡ take j (blocks (drop 16 s)) = blocks-take j (drop 16 s) (rw length-drop (omega (arith, l))) in
-    rw (e, blocks_cons t some, first_taken (16 + 16 * j) s (omega arith), drop-taken (16 * j) s (omega (arith, l)), rest, blocks_cons s (omega (arith, l)))
+    rw (e, blocks_cons t some, first_taken (16 + 16 * j) s (omega arith), drop_taken (16 * j) s (omega (arith, l)), rest, blocks_cons s (omega (arith, l)))

@@ -16,16 +16,16 @@ use Rattle.blocks.proofs.Blocks.{length-blocks}
 use Rattle.brw.specs.Brw.{largest_power, products}
 use Rattle.brw.specs.Inner.{power_at, lent_power, lent_polynomial, SplitOf}
 use Rattle.brw.specs.declared.evaluation.Split.{Split}
-use Rattle.brw.proofs.Clauses.{shorter, more, products-more, products_half}
+use Rattle.brw.proofs.Clauses.{shorter, more, products_more, products_half}
 use Rattle.brw.proofs.Squares.{zeros_of_power}
 use Rattle.brw.proofs.Parts.{blocks-drop, blocks_get, blocks-take}
 
 -- A part that would begin behind the end is empty.
-from-test : (b : Bool) (m : ℕ) (s : List ℕ) → leb m (length s) ≡ b → drop (min m (length s)) s ≡ drop m s
-from-test true m s e =
+from_test : (b : Bool) (m : ℕ) (s : List ℕ) → leb m (length s) ≡ b → drop (min m (length s)) s ≡ drop m s
+from_test true m s e =
     let here : min m (length s) ≡ m = omega (arith, leb-true m (length s) e) in
     ap (λ (i : ℕ). drop i s) here
-from-test false m s e =
+from_test false m s e =
     let h : length s < m = leb-false m (length s) e in
     let end : length s ≤ min m (length s) = omega (arith, h) in
     let past : length s ≤ m = omega (arith, h) in
@@ -54,13 +54,13 @@ parts s split h o =
     record {
       before = rw kth (blocks-take (k - 1) s (omega (arith, i.before, l)));
       kth = rw kth (blocks_get (k - 1) s i.before);
-      behind = rw (behind, from-test (leb (16 * k) (length s)) (16 * k) s refl) (blocks-drop k s);
+      behind = rw (behind, from_test (leb (16 * k) (length s)) (16 * k) s refl) (blocks-drop k s);
     }
 
 -- The power of the kth block is lent at the exponent of k.
-power-lent : (words : List ℕ) (l : ℕ) (split : Split) → SplitOf l split → lent_power words (largest_power ((l + 15) / 16)) ≡ power_at words split.exponent
+power_lent : (words : List ℕ) (l : ℕ) (split : Split) → SplitOf l split → lent_power words (largest_power ((l + 15) / 16)) ≡ power_at words split.exponent
 unfolding lent_power
-power-lent words l split o = rw (← o.power_of, zeros_of_power split.exponent o.small)
+power_lent words l split o = rw (← o.power_of, zeros_of_power split.exponent o.small)
 
 pub split-value : (words s : List ℕ) (split : Split) → 48 < length s → SplitOf (length s) split
     → lent_polynomial words (blocks (take split.at s)) · (power_at words split.exponent ⊕ first_block (drop split.at s))
@@ -69,7 +69,7 @@ pub split-value : (words s : List ℕ) (split : Split) → 48 < length s → Spl
 unfolding lent_polynomial
 split-value words s split h o =
     let p = parts s split h o in
-    let lent : power_at words split.exponent ≡ lent_power words (largest_power (length (blocks s))) = rw length-blocks (sym (power-lent words (length s) split o)) in
+    let lent : power_at words split.exponent ≡ lent_power words (largest_power (length (blocks s))) = rw length-blocks (sym (power_lent words (length s) split o)) in
     rw (p.before, p.kth, p.behind, lent) (sym (more ◌·◌ (power_at words 0) (lent_power words) (blocks s) (at_least_four s h)))
 
 pub split-count : (s : List ℕ) (split : Split) → 48 < length s → SplitOf (length s) split
@@ -80,7 +80,7 @@ split-count s split h o =
     let p = parts s split h o in
     let i = shorter n (omega (arith, at_least_four s h)) in
     let first : length (take (k - 1) (blocks s)) ≡ k - 1 = length-take-le (k - 1) (blocks s) (omega (arith, i.before)) in
-    rw (p.before, p.behind, first, length-drop k (blocks s)) (sym (products-more n (at_least_four s h)))
+    rw (p.before, p.behind, first, length-drop k (blocks s)) (sym (products_more n (at_least_four s h)))
 
 -- A count is a number of 64 digits, as the length is.
 pub count_fits : (s : List ℕ) → length s < 2 ^ 64 → products (length (blocks s)) < 2 ^ 64
@@ -88,22 +88,22 @@ count_fits s h = rw (products_half (length (blocks s)), length-blocks s) (omega 
 
 -- The parts are shorter.
 pub record ShorterParts (s : List ℕ) (split : Split) : Type 0 where
-  pub kth-within : split.at ≤ length s
+  pub kth_within : split.at ≤ length s
   pub end_within : split.end ≤ length s
-  pub before-shorter : split.at < length s
-  pub behind-shorter : length s - split.end < length s
+  pub before_shorter : split.at < length s
+  pub behind_shorter : length s - split.end < length s
 
-pub shorter-parts : (s : List ℕ) (split : Split) → 48 < length s → SplitOf (length s) split → ShorterParts s split
-shorter-parts s split h o =
+pub shorter_parts : (s : List ℕ) (split : Split) → 48 < length s → SplitOf (length s) split → ShorterParts s split
+shorter_parts s split h o =
     let l : ℕ = length s in
     let n : ℕ = (l + 15) / 16 in
     let k : ℕ = largest_power n in
     let i = shorter n (omega (arith, h)) in
     record {
-      kth-within = rw o.kth (before_it k l i.before);
+      kth_within = rw o.kth (before_it k l i.before);
       end_within = rw o.behind (omega arith);
-      before-shorter = rw o.kth (before_strictly k l i.before);
-      behind-shorter = rw o.behind (behind_strictly k l i.behind h);
+      before_shorter = rw o.kth (before_strictly k l i.before);
+      behind_shorter = rw o.behind (behind_strictly k l i.behind h);
     }
   where
     before_strictly : (k l : ℕ) → k - 1 < (l + 15) / 16 → 16 * (k - 1) < l

@@ -18,27 +18,27 @@ use Rattle.blocks.proofs.Horner.{power_below}
 use Rattle.blocks.proofs.Ring.{ring_of_blocks}
 use Rattle.brw.specs.Brw.{largest_power, polynomial, BRW}
 use Rattle.brw.specs.Inner.{power_at, prepared, exponent_of, lent_power, lent_polynomial}
-use Rattle.brw.proofs.Largest.{between, exponent_is, same-exponent}
+use Rattle.brw.proofs.Largest.{between, exponent_is, same_exponent}
 use Rattle.brw.proofs.Clauses.{shorter}
 
 -- ---- squares
 
-power-add : (t a b : ℕ) → IsBlock t → power 1 ◌·◌ t (a + b) ≡ power 1 ◌·◌ t a · power 1 ◌·◌ t b
+power_add : (t a b : ℕ) → IsBlock t → power 1 ◌·◌ t (a + b) ≡ power 1 ◌·◌ t a · power 1 ◌·◌ t b
 unfolding power
-power-add t zero b h = rw zero-add (sym (ring_of_blocks.one_left (power 1 ◌·◌ t b) (power_below ring_of_blocks t b h)))
-power-add t (suc a) b h =
+power_add t zero b h = rw zero-add (sym (ring_of_blocks.one_left (power 1 ◌·◌ t b) (power_below ring_of_blocks t b h)))
+power_add t (suc a) b h =
     let below : (n : ℕ) → IsBlock (power 1 ◌·◌ t n) = λ n. power_below ring_of_blocks t n h in
     let e : suc a + b ≡ suc (a + b) = omega arith in
-    rw (e, power-add t a b h) (sym (ring_of_blocks.assoc t (power 1 ◌·◌ t a) (power 1 ◌·◌ t b) h (below a) (below b)))
+    rw (e, power_add t a b h) (sym (ring_of_blocks.assoc t (power 1 ◌·◌ t a) (power 1 ◌·◌ t b) h (below a) (below b)))
 
-pub first-power : (t : ℕ) → IsBlock t → power 1 ◌·◌ t 1 ≡ t
+pub first_power : (t : ℕ) → IsBlock t → power 1 ◌·◌ t 1 ≡ t
 unfolding power
-first-power t h = ring_of_blocks.one_right t h
+first_power t h = ring_of_blocks.one_right t h
 
 pub squared : (t i : ℕ) → IsBlock t → power 1 ◌·◌ t (2 ^ suc i) ≡ power 1 ◌·◌ t (2 ^ i) · power 1 ◌·◌ t (2 ^ i)
 squared t i h =
     let e : 2 ^ suc i ≡ 2 ^ i + 2 ^ i = omega (arith, pow-suc 2 i) in
-    rw e (power-add t (2 ^ i) (2 ^ i) h)
+    rw e (power_add t (2 ^ i) (2 ^ i) h)
 
 -- ---- leading zeros
 
@@ -50,15 +50,15 @@ top n p h =
     rw e (s.2, s.3)
 
 -- The exponent of the largest power.
-pub largest-by-zeros : (n : ℕ) → 0 < n → n < 2 ^ 64 → 2 ^ exponent_of n ≡ largest_power n
-largest-by-zeros n p h =
+pub largest_by_zeros : (n : ℕ) → 0 < n → n < 2 ^ 64 → 2 ^ exponent_of n ≡ largest_power n
+largest_by_zeros n p h =
     let j = exponent_of n in
     sym (exponent_is n j (top n p h).0 (top n p h).1)
 
 pub zeros_of_power : (j : ℕ) → j < 64 → exponent_of (2 ^ j) ≡ j
 zeros_of_power j h =
     let s = top (2 ^ j) (pow_pos j) (pow-lt h) in
-    same-exponent (2 ^ j) (exponent_of (2 ^ j)) j s.0 s.1 (le_refl (2 ^ j)) (pow-lt (le_refl (suc j)))
+    same_exponent (2 ^ j) (exponent_of (2 ^ j)) j s.0 s.1 (le_refl (2 ^ j)) (pow-lt (le_refl (suc j)))
 
 -- ---- lent powers
 
@@ -71,33 +71,33 @@ small j h = lt_of_not-le (λ (k : 64 ≤ j). lt_irrefl 255 (lt_of_lt_of_le (lit<
 -- Powers that agree where they are asked for give the same polynomial.
 module _ (◌·◌ : ℕ → ℕ → ℕ) (t : ℕ) (p q : ℕ → ℕ) (m : ℕ) (same : (j : ℕ) → 2 ≤ 2 ^ j → 2 ^ j ≤ m → p (2 ^ j) ≡ q (2 ^ j)) where
   infixl 70 ◌·◌
-  pub agreeing-powers : (d : ℕ) (Xs : List ℕ) → length Xs ≤ m → polynomial ◌·◌ t p d Xs ≡ polynomial ◌·◌ t q d Xs
+  pub agreeing_powers : (d : ℕ) (Xs : List ℕ) → length Xs ≤ m → polynomial ◌·◌ t p d Xs ≡ polynomial ◌·◌ t q d Xs
   unfolding polynomial
-  agreeing-powers zero Xs h = refl
-  agreeing-powers (suc d) [] h = refl
-  agreeing-powers (suc d) (X₁ ∷ []) h = refl
-  agreeing-powers (suc d) (X₁ ∷ X₂ ∷ []) h = refl
-  agreeing-powers (suc d) (X₁ ∷ X₂ ∷ X₃ ∷ []) h = rw (same 1 (le_refl 2) (le_trans (omega arith) h))
-  agreeing-powers (suc d) (X₁ ∷ X₂ ∷ X₃ ∷ X₄ ∷ Xs) h =
+  agreeing_powers zero Xs h = refl
+  agreeing_powers (suc d) [] h = refl
+  agreeing_powers (suc d) (X₁ ∷ []) h = refl
+  agreeing_powers (suc d) (X₁ ∷ X₂ ∷ []) h = refl
+  agreeing_powers (suc d) (X₁ ∷ X₂ ∷ X₃ ∷ []) h = rw (same 1 (le_refl 2) (le_trans (omega arith) h))
+  agreeing_powers (suc d) (X₁ ∷ X₂ ∷ X₃ ∷ X₄ ∷ Xs) h =
       let X : List ℕ = X₁ ∷ X₂ ∷ X₃ ∷ X₄ ∷ Xs in
       let n : ℕ = length X in
       let k : ℕ = largest_power n in
       let b = between n (omega arith) in
       let s = shorter n (omega arith) in
-      let here : p k ≡ q k = rw b.is_power (same b.exponent (rw b.is_power at (two k n b.twice-above (omega arith))) (rw b.is_power at (le_trans b.not_above h))) in
+      let here : p k ≡ q k = rw b.is_power (same b.exponent (rw b.is_power at (two k n b.twice_above (omega arith))) (rw b.is_power at (le_trans b.not_above h))) in
       let before : length (take (k - 1) X) ≡ k - 1 = length-take-le (k - 1) X (omega (arith, s.before)) in
       let behind : length (drop k X) ≡ n - k = length-drop k X in
       rw (
         here,
-        agreeing-powers d (take (k - 1) X) (omega (arith, before, s.before, h)),
-        agreeing-powers d (drop k X) (omega (arith, behind, s.behind, h)),
+        agreeing_powers d (take (k - 1) X) (omega (arith, before, s.before, h)),
+        agreeing_powers d (drop k X) (omega (arith, behind, s.behind, h)),
       )
 
-pub lent-polynomial : (t : ℕ) (words Xs : List ℕ) (n : ℕ) → ((i : ℕ) → power_at words i ≡ prepared t n i) → length Xs ≤ n → n ≤ 255
+pub lent_polynomial_lem : (t : ℕ) (words Xs : List ℕ) (n : ℕ) → ((i : ℕ) → power_at words i ≡ prepared t n i) → length Xs ≤ n → n ≤ 255
     → lent_polynomial words Xs ≡ BRW 1 ◌·◌ t Xs
 unfolding lent_polynomial lent_power BRW prepared
-lent-polynomial t words Xs n h l m =
-    rw (h 0) (agreeing-powers ◌·◌ t (lent_power words) (power 1 ◌·◌ t) n same (length Xs) Xs l)
+lent_polynomial_lem t words Xs n h l m =
+    rw (h 0) (agreeing_powers ◌·◌ t (lent_power words) (power 1 ◌·◌ t) n same (length Xs) Xs l)
   where
     by_index : (j : ℕ) → 2 ≤ 2 ^ j → 2 ^ j ≤ n → prepared t n j ≡ power 1 ◌·◌ t (2 ^ j)
     by_index zero g k = absurd (lt_irrefl 1 g)

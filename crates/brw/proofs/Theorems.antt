@@ -12,7 +12,7 @@ use Rattle.blocks.proofs.Ring.{ring_of_blocks}
 use Rattle.brw.specs.Brw.{largest_from, largest_power, polynomial, products_within, products, BRW, hash}
 use Rattle.brw.specs.Theorems.{Clauses, Counts, example_key, example_blocks, Theorems}
 use Rattle.brw.proofs.Largest.{largest}
-use Rattle.brw.proofs.Clauses.{more, products-more, products_half}
+use Rattle.brw.proofs.Clauses.{more, products_more, products_half}
 
 clauses : (one : ℕ) (◌·◌ : ℕ → ℕ → ℕ) → Clauses one ◌·◌ (BRW one ◌·◌)
 unfolding BRW polynomial
@@ -20,25 +20,25 @@ clauses one ◌·◌ = record {
   none = λ t. refl;
   one_block = λ t X₁. refl;
   two_blocks = λ t X₁ X₂. refl;
-  three-blocks = λ t X₁ X₂ X₃. refl;
-  more-blocks = λ t Xs h. more ◌·◌ t (power one ◌·◌ t) Xs h;
+  three_blocks = λ t X₁ X₂ X₃. refl;
+  more_blocks = λ t Xs h. more ◌·◌ t (power one ◌·◌ t) Xs h;
 }
 
 counts : Counts products
 unfolding products products_within
-counts = record { none = refl; one_block = refl; two_blocks = refl; three-blocks = refl; more-blocks = products-more }
+counts = record { none = refl; one_block = refl; two_blocks = refl; three_blocks = refl; more_blocks = products_more }
 
 hash-times : (t : ℕ) (Xs : List ℕ) → hash t Xs ≡ t · BRW 1 ◌·◌ t Xs
 unfolding hash
 hash-times t Xs = refl
 
-pub hash-keeps : (t : ℕ) (Xs : List ℕ) → IsBlock t → IsBlock (hash t Xs)
+pub hash_keeps : (t : ℕ) (Xs : List ℕ) → IsBlock t → IsBlock (hash t Xs)
 unfolding hash
-hash-keeps t Xs h = ring_of_blocks.below t (BRW 1 ◌·◌ t Xs) h
+hash_keeps t Xs h = ring_of_blocks.below t (BRW 1 ◌·◌ t Xs) h
 
-pub hash-one : (t X : ℕ) → hash t (X ∷ []) ≡ t · X
+pub hash_one : (t X : ℕ) → hash t (X ∷ []) ≡ t · X
 unfolding hash BRW polynomial
-hash-one t X = refl
+hash_one t X = refl
 
 example_hash : hash example_key example_blocks ≡ 0x0e3e7ecfc5c9d6c11fea779e786d0ff0
 unfolding hash BRW polynomial largest_power largest_from power product product_n times_x times01 ◌⊕◌
@@ -50,13 +50,13 @@ example_products = refl
 
 pub theorems : Theorems
 theorems = record {
-  largest-power = largest;
+  largest_power_lem = largest;
   clauses = clauses;
   counts = counts;
   products_half = products_half;
   hash-times = hash-times;
-  hash-keeps = hash-keeps;
-  hash-one = hash-one;
+  hash_keeps = hash_keeps;
+  hash_one = hash_one;
   example_hash = example_hash;
   example_products = example_products;
 }

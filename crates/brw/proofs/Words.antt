@@ -37,10 +37,10 @@ put_other words i high low j n =
     get_or-set_other w (2 * i + 1) (2 * j + 1) low 0 (λ e. n (omega (arith, e))) ∙ get_or-set_other words (2 * i) (2 * j + 1) high 0 (λ e. absurd (omega (arith, e))) in
     rw (first, second)
 
-zero-at : (n m : ℕ) → ◌≡◌ {A = ℕ} (get_or (replicate n 0) m 0) 0
-zero-at zero m = refl
-zero-at (suc n) zero = refl
-zero-at (suc n) (suc m) = zero-at n m
+zero_at : (n m : ℕ) → ◌≡◌ {A = ℕ} (get_or (replicate n 0) m 0) 0
+zero_at zero m = refl
+zero_at (suc n) zero = refl
+zero_at (suc n) (suc m) = zero_at n m
 
 either : (b : Bool) → ◌≡◌ {A = ℕ} (cond b 0 0) 0
 either true = refl
@@ -48,7 +48,7 @@ either false = refl
 
 pub none_yet : (j : ℕ) → power_at (replicate 16 0) j ≡ 0
 unfolding power_at
-none_yet j = rw (zero-at 16 (2 * j), zero-at 16 (2 * j + 1)) (either (ltb j 8))
+none_yet j = rw (zero_at 16 (2 * j), zero_at 16 (2 * j + 1)) (either (ltb j 8))
 
 -- A power is prepared if n blocks need it and it is one of the eight.
 pub prepared_here : (t n i : ℕ) → 2 ^ suc i ≤ n → suc i < 8 → prepared t n (suc i) ≡ power 1 ◌·◌ t (2 ^ suc i)
@@ -64,9 +64,9 @@ not_prepared t n i h =
     let past : min n 255 < 2 ^ suc i = omega (arith, h) in
     rw (lt-leb (2 ^ suc i) (min n 255) past)
 
-pub past-eight : (t n i : ℕ) → 8 ≤ suc i → prepared t n (suc i) ≡ 0
+pub past_eight : (t n i : ℕ) → 8 ≤ suc i → prepared t n (suc i) ≡ 0
 unfolding prepared
-past-eight t n i h =
+past_eight t n i h =
     let large : 256 ≤ 2 ^ suc i = pow_mono {i = 8} h in
     let past : min n 255 < 2 ^ suc i = omega (arith, large) in
     rw (lt-leb (2 ^ suc i) (min n 255) past)

@@ -12,7 +12,7 @@ use Rattle.strings.specs.Message.{tests as tests_of_message}
 use Rattle.strings.specs.declared.refusal.Refusal.{Refusal}
 use Rattle.strings.specs.declared.refusal.Refusal.TheVariants.{TooShort}
 use Rattle.strings.proofs.Refusals.{refusal_range}
-use Rattle.layout.proofs.Check.{zero-told, not_zero}
+use Rattle.layout.proofs.Check.{zero_told, not_zero}
 use Rattle.primitives.specs.Aes.{is_key}
 use Rattle.hch.specs.Hch.{hch}
 use Rattle.hch.specs.Call.{tests}
@@ -23,9 +23,9 @@ use Rattle.claims.specs.Demand1.{MessageNumbers, SealingNumbers, OpeningNumbers,
 use Rattle.claims.proofs.Keys.{is_key_lem, no_key}
 use Rattle.claims.proofs.Number9.{line_9_only}
 
-pub refused-left : (number : ℕ) (work lent : List ℕ) → 0 < number → left_by number work lent ≡ lent
-refused-left zero work lent h = absurd (omega (arith, h))
-refused-left (suc n) work lent h = refl
+pub refused_left : (number : ℕ) (work lent : List ℕ) → 0 < number → left_by number work lent ≡ lent
+refused_left zero work lent h = absurd (omega (arith, h))
+refused_left (suc n) work lent h = refl
 
 -- Of sealing and opening by every scheme that takes AES's keys.
 module _ (S : Scheme) (keys : (key : List ℕ) → S.is_key key ≡ is_key key) where
@@ -36,7 +36,7 @@ module _ (S : Scheme) (keys : (key : List ℕ) → S.is_key key ≡ is_key key) 
     seal_7 = λ key payload place block k b. rw (keys key, is_key_lem key k, ne_eqb _ 512 b);
     seal_5 = λ key payload place block k b u. rw (keys key, is_key_lem key k, b, lt-ltb 496 _ u);
     seal_6 = λ key payload place block k b u n. rw (keys key, is_key_lem key k, b, le-ltb 496 _ u, lt-ltb 65535 _ n);
-    seal-done = λ key payload place block k b u n. rw (keys key, is_key_lem key k, b, le-ltb 496 _ u, le-ltb 65535 _ n);
+    seal_done = λ key payload place block k b u n. rw (keys key, is_key_lem key k, b, le-ltb 496 _ u, le-ltb 65535 _ n);
   }
 
   pub opening_numbers : OpeningNumbers S
@@ -46,7 +46,7 @@ module _ (S : Scheme) (keys : (key : List ℕ) → S.is_key key ≡ is_key key) 
     open_7 = λ key pack place block k b. rw (keys key, is_key_lem key k, ne_eqb _ 512 b);
     open_6 = λ key pack place block k b n. rw (keys key, is_key_lem key k, b, lt-ltb 65535 _ n);
     open_8 = λ key pack place block k b n e some. rw (keys key, is_key_lem key k, b, le-ltb 65535 _ n, e, not_zero block some);
-    open_12 = λ key pack place block k b n e zero. rw (keys key, is_key_lem key k, b, le-ltb 65535 _ n, e, zero-told block zero);
+    open_12 = λ key pack place block k b n e zero. rw (keys key, is_key_lem key k, b, le-ltb 65535 _ n, e, zero_told block zero);
     open_done = λ key pack place block k b n e. (rw (keys key, is_key_lem key k, b, le-ltb 65535 _ n, e), rw (keys key, is_key_lem key k, b, le-ltb 65535 _ n, e));
   }
 
@@ -65,7 +65,7 @@ module _ (S : Scheme) (keys : (key : List ℕ) → S.is_key key ≡ is_key key) 
 pub demand_1 : Demand1
 unfolding reply_to answer tests looks_at
 demand_1 = record {
-  hch-numbers = message_numbers hch (λ key. refl) 16 TooShort (omega arith);
+  hch_numbers = message_numbers hch (λ key. refl) 16 TooShort (omega arith);
   hch_sealing = sealing_numbers hch (λ key. refl);
   hch_opening = opening_numbers hch (λ key. refl);
   hch_17 = λ message h. rw (length-drop, h);
@@ -74,9 +74,9 @@ demand_1 = record {
   line-enciphered = λ line key tweak message e. rw e;
   line-deciphered = λ line key tweak message e. rw e;
   library_numbers = refusal_range;
-  refused-left = refused-left;
+  refused_left = refused_left;
   refused_alone = λ why. (refl, refl);
   not_opened_alone = λ why. (refl, refl);
-  done-left = λ work lent. refl;
+  done_left = λ work lent. refl;
   done_alone = (refl, refl);
 }

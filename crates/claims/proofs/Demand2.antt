@@ -8,8 +8,8 @@ use Rattle.claims.specs.Demand2.{Demand2}
 pub demand_2 : Demand2
 unfolding encipher_block decipher_block aes enciphered_by deciphered_by enciphered deciphered
 demand_2 = record {
-  enciphered-by-aes = λ key tweak P. refl;
-  deciphered-by-aes = λ key tweak C. refl;
+  enciphered_by_aes = λ key tweak P. refl;
+  deciphered_by_aes = λ key tweak C. refl;
   aes_128 = λ key k b. (rw k, rw k);
   aes_256 = λ key k b. (rw k, rw k);
 }

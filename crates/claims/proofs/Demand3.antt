@@ -31,14 +31,14 @@ pub demand_3 : Demand3
 demand_3 = record {
   any_permutation = λ c p T t C b n. ((Hch.theorems).permutation_one_plaintext c p T (length C) t n C (refl, b)).one;
   any_permutation_counted = λ c p T t C b n. ((Hch.theorems).permutation_one_plaintext c p T (length C) t n C (refl, b)).counted;
-  aes-permutation = (Aes.theorems).aes-permutation;
+  aes_permutation = (Aes.theorems).aes_permutation;
   one_message = λ key tweak C t b n. ((Hch.theorems).one_plaintext key tweak (length C) t n C (refl, b)).one;
   one_message_counted = λ key tweak C t b n. ((Hch.theorems).one_plaintext key tweak (length C) t n C (refl, b)).counted;
   hch_tweakable = hch_tweakable;
   hch_pack = hch_pack;
   one_block = λ key payload pack place k b h l.
       ((hch_pack key k).one_block payload pack place (record { payload_bytes = b; payload_length = h; place_limit = l })).one;
-  one-block-counted = λ key payload pack place k b h l.
+  one_block_counted = λ key payload pack place k b h l.
       ((hch_pack key k).one_block payload pack place (record { payload_bytes = b; payload_length = h; place_limit = l })).counted;
   three_of_ten = three_of_ten;
 }

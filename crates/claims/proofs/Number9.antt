@@ -22,13 +22,13 @@ use Rattle.text.proofs.Digits.{digit_is}
 use Rattle.line.specs.Line.{Request, Encipher, Decipher, Unknown, request_of, decimal, refusal, reply, reply_to, answer}
 
 -- The first byte that HCH writes is a byte.
-first-enciphered : (key tweak P : List ℕ) → get_or (enciphered key tweak P) 0 0 < 256
+first_enciphered : (key tweak P : List ℕ) → get_or (enciphered key tweak P) 0 0 < 256
 unfolding enciphered enciphered_by encipher bytes
-first-enciphered key tweak P = mod-lt _ (lit< tt)
+first_enciphered key tweak P = mod-lt _ (lit< tt)
 
-first-deciphered : (key tweak C : List ℕ) → get_or (deciphered key tweak C) 0 0 < 256
+first_deciphered : (key tweak C : List ℕ) → get_or (deciphered key tweak C) 0 0 < 256
 unfolding deciphered deciphered_by decipher bytes
-first-deciphered key tweak C = mod-lt _ (lit< tt)
+first_deciphered key tweak C = mod-lt _ (lit< tt)
 
 -- A number of at most two digits is written as 9 only if it is 9.
 written_9 : (n : ℕ) → n < 100 → refusal n ≡ refusal 9 → n ≡ 9
@@ -58,8 +58,8 @@ answer_not_9 (Refused why) e = (refusal_range why).2 e
 
 asked : (r : Request) → reply_to r ≡ refusal 9 → r ≡ Unknown
 unfolding reply_to
-asked (Encipher key tweak message) e = absurd (not_9 _ _ (number_range (answer_of key tweak message)) (answer_not_9 (answer_of key tweak message)) (first-enciphered key tweak message) e)
-asked (Decipher key tweak message) e = absurd (not_9 _ _ (number_range (answer_of key tweak message)) (answer_not_9 (answer_of key tweak message)) (first-deciphered key tweak message) e)
+asked (Encipher key tweak message) e = absurd (not_9 _ _ (number_range (answer_of key tweak message)) (answer_not_9 (answer_of key tweak message)) (first_enciphered key tweak message) e)
+asked (Decipher key tweak message) e = absurd (not_9 _ _ (number_range (answer_of key tweak message)) (answer_not_9 (answer_of key tweak message)) (first_deciphered key tweak message) e)
 asked Unknown e = refl
 
 pub line_9_only : (line : List ℕ) → answer line ≡ refusal 9 → request_of line ≡ Unknown

@@ -13,7 +13,7 @@ use Rattle.layout.proofs.Parts.{is_pack_lem, count_of, pack_of}
 use Rattle.layout.proofs.Written.{in_pack}
 use Rattle.layout.proofs.Theorems as Layout
 use Rattle.claims.specs.Point1.{of_finding, IsPack, Point1}
-use Rattle.claims.proofs.Demand1.{refused-left}
+use Rattle.claims.proofs.Demand1.{refused_left}
 use Rattle.claims.proofs.Demand3.{hch_pack}
 
 module _ (n : ℕ) (pack : List ℕ) (p : IsPack n pack) where
@@ -64,16 +64,16 @@ point_1 = record {
   find_length = λ n place pack p h. (Layout.theorems).found-length place pack (done n pack p place h);
   find_10 = λ place pack none. not_found place pack (not_a_pack pack (is_pack pack) refl none);
   find_6 = λ n place pack p. past n pack p place;
-  find_nothing = λ place pack. refused-left (of_finding place pack) (part place pack) [];
+  find_nothing = λ place pack. refused_left (of_finding place pack) (part place pack) [];
   find_in_pack = λ n place pack r p h begins. in_pack place pack r (begins (done n pack.now p place h));
   find_written = λ n place pack r p h written memory block holds same.
       subst (Holds memory pack) (left_work (done n pack.now p place h) (with_part place block pack.now) pack.now) (written memory block holds same);
   pack_is_its_parts = parts_of;
   same_parts = λ n pack other p q same.
       (Layout.theorems).same_parts pack other (is_one n pack p) (p.2 ∙ sym q.2) (λ place h. same place (omega (arith, h, blocks n pack p)));
-  parts-apart = λ n p q pack r s is in_p in-q. (Layout.theorems).parts-apart p q pack r s (done n pack.now is p in_p) (done n pack.now is q in-q);
-  written-found = λ n place block pack p h. (Layout.theorems).written-found place block pack (done n pack p place h);
-  others-found = λ n place other block pack p h. (Layout.theorems).others-found place other block pack (done n pack p place h);
+  parts_apart = λ n p q pack r s is in_p in-q. (Layout.theorems).parts_apart p q pack r s (done n pack.now is p in_p) (done n pack.now is q in-q);
+  written_found = λ n place block pack p h. (Layout.theorems).written_found place block pack (done n pack p place h);
+  others_found = λ n place other block pack p h. (Layout.theorems).others_found place other block pack (done n pack p place h);
   opened_in_place = λ n key payload number place pack k b h p l.
       (hch_pack key k).opened_in_place payload number place pack b h (done n pack p place l);
   others_in_place = λ n key payload number place pack k b h p l.

@@ -19,14 +19,14 @@ use Rattle.runs.specs.Run.{times}
 use Rattle.runs.specs.Sealing.{some_over, tests as tests_of_sealing}
 use Rattle.runs.specs.Opening.{tests as tests_of_opening, answer_of, NumberAt, Unopened}
 use Rattle.runs.specs.Theorems.{Runs, WithinLimits, laid_out}
-use Rattle.runs.proofs.Answers.{all-open}
+use Rattle.runs.proofs.Answers.{all_open}
 use Rattle.runs.proofs.Lists.{some_over_lem, over_some}
 use Rattle.runs.proofs.Theorems as RunTheorems
 use Rattle.claims.specs.Demand1.{IsKey}
 use Rattle.claims.specs.Point1.{IsPack}
 use Rattle.claims.specs.Point2.{of_sealing, of_opening, of_block, Lent, NoneOver, Payloads, Point2}
 use Rattle.claims.proofs.Keys.{is_key_lem, no_key}
-use Rattle.claims.proofs.Demand1.{refused-left}
+use Rattle.claims.proofs.Demand1.{refused_left}
 use Rattle.claims.proofs.Demand3.{hch_tweakable}
 use Rattle.claims.proofs.Point1.{blocks, is_one, not_a_pack}
 
@@ -102,7 +102,7 @@ module _ (key : List ℕ) (n first : ℕ) (lengths run : List ℕ) (l : Lent key
         is_one n run l.1,
         eq-eqb (length lengths) (length run / 512) same_list,
         le-ltb 65535 (first + length run / 512 - 1) near,
-        all-open hch key pack first run (length run / 512) (λ i h. each i (omega (arith, h, count))),
+        all_open hch key pack first run (length run / 512) (λ i h. each i (omega (arith, h, count))),
       )
 
 limits : (n : ℕ) (payload : ℕ → List ℕ) (first : ℕ) → Payloads n payload first → WithinLimits n payload first
@@ -143,7 +143,7 @@ point_2 = record {
   seal_11 = λ key n first lengths run k p. seals_11 key n first lengths run k p;
   seal_5 = λ key n first lengths run l i h. seals_5 key n first lengths run l i;
   seal_6 = seals_6;
-  seal-done = sealed;
+  seal_done = sealed;
   open_1 = λ key pack first lengths run k. rw (no_key key k);
   open_10 = λ key pack first lengths run k none. not_run_opening key pack first lengths run k (not_a_pack run (is_pack run) refl none);
   open_11 = λ key n pack first lengths run k p. opens_11 key n first lengths run k p pack;
@@ -155,14 +155,14 @@ point_2 = record {
         λ none before. ⊎_elim (λ (e : at 8). (inl e.0, e.1)) (λ (e : at 12). (inr e.0, e.1)) (told.1 (none, before)),
       );
   open_done = λ key n pack first lengths run l. opened key n first lengths run l pack;
-  unopened-left = λ key pack first lengths run h. (refused-left (of_opening key pack first lengths run) _ run h, refused-left (of_opening key pack first lengths run) _ lengths h);
+  unopened_left = λ key pack first lengths run h. (refused_left (of_opening key pack first lengths run) _ run h, refused_left (of_opening key pack first lengths run) _ lengths h);
   no_place = (refl, λ why. refl);
   place_written = λ lent. (refl, λ why. refl, λ why place. refl);
   an_order = three;
-  sealed-each = λ key first lengths run k. (hch_runs key k).sealed-each first lengths run;
-  sealed-one-by-one = λ key pack first lengths run k. (hch_runs key k).sealed-one-by-one pack first lengths run;
-  opened-each = λ key pack first lengths run k. (hch_runs key k).opened-each pack first lengths run;
-  opened-one-by-one = λ key pack first lengths run k. (hch_runs key k).opened-one-by-one pack first lengths run;
+  sealed_each = λ key first lengths run k. (hch_runs key k).sealed_each first lengths run;
+  sealed_one_by_one = λ key pack first lengths run k. (hch_runs key k).sealed_one_by_one pack first lengths run;
+  opened_each = λ key pack first lengths run k. (hch_runs key k).opened_each pack first lengths run;
+  opened_one_by_one = λ key pack first lengths run k. (hch_runs key k).opened_one_by_one pack first lengths run;
   others_open = λ key pack first lengths run k. (hch_runs key k).others_open pack first lengths run;
   one_run = λ key n payload pack first k p run size front.
       ((hch_runs key k).one_run n payload pack first (limits n payload first p) run (record { run_length = size; in_front = front })).one;

@@ -16,17 +16,17 @@ use Rattle.runs.specs.Opening.{number_of as number_of_run, values_of as values_o
 use Rattle.claims.specs.Demand1.{IsKey, of_opening}
 use Rattle.claims.specs.Point4.{zeros, damaged, unchanged, Point4}
 use Rattle.claims.proofs.Keys.{is_key_lem}
-use Rattle.claims.proofs.Demand1.{demand_1, refused-left}
+use Rattle.claims.proofs.Demand1.{demand_1, refused_left}
 use Rattle.claims.proofs.Demand3.{hch_pack}
 use Rattle.claims.proofs.Point2.{run_unopened}
 
-block-unopened : (key : List ℕ) (pack place : ℕ) (C : List ℕ) → IsKey key → OfLength 512 C → place ≤ 65535
+block_unopened : (key : List ℕ) (pack place : ℕ) (C : List ℕ) → IsKey key → OfLength 512 C → place ≤ 65535
     → Unopened hch (of_opening hch key pack place C) key pack place C
-block-unopened key pack place C k h l = (hch_pack key k).unopened pack place C h.1 (is_key_lem key k) h.0 l
+block_unopened key pack place C k h l = (hch_pack key k).unopened pack place C h.1 (is_key_lem key k) h.0 l
 
-zeros-opened : (number_of (answer_of unchanged [] 0 0 zeros) ≡ 0) × (values_of (answer_of unchanged [] 0 0 zeros) ≡ 0 ∷ [])
+zeros_opened : (number_of (answer_of unchanged [] 0 0 zeros) ≡ 0) × (values_of (answer_of unchanged [] 0 0 zeros) ≡ 0 ∷ [])
 unfolding tests looks_at deciphered_block passes used check is_zero equal number bytes
-zeros-opened = (refl, refl)
+zeros_opened = (refl, refl)
 
 zeros_blank : number_of (answer_of unchanged [] 1 0 zeros) ≡ 12
 unfolding tests looks_at deciphered_block passes used check is_zero equal number bytes
@@ -36,33 +36,33 @@ one_byte : number_of (answer_of unchanged [] 1 0 damaged) ≡ 8
 unfolding tests looks_at deciphered_block passes used check is_zero equal number bytes
 one_byte = refl
 
-damaged-first : let answer = answer_of_run unchanged [] 1 3 (0 ∷ 0 ∷ []) (damaged ++ zeros) in (number_of_run answer ≡ 8) × (values_of_run answer ≡ 3 ∷ [])
+damaged_first : let answer = answer_of_run unchanged [] 1 3 (0 ∷ 0 ∷ []) (damaged ++ zeros) in (number_of_run answer ≡ 8) × (values_of_run answer ≡ 3 ∷ [])
 unfolding tests_of_run is_pack part in_turn tests looks_at deciphered_block passes used check is_zero equal number bytes
-damaged-first = (refl, refl)
+damaged_first = (refl, refl)
 
-zeros-first : let answer = answer_of_run unchanged [] 1 3 (0 ∷ 0 ∷ []) (zeros ++ damaged) in (number_of_run answer ≡ 12) × (values_of_run answer ≡ 3 ∷ [])
+zeros_first : let answer = answer_of_run unchanged [] 1 3 (0 ∷ 0 ∷ []) (zeros ++ damaged) in (number_of_run answer ≡ 12) × (values_of_run answer ≡ 3 ∷ [])
 unfolding tests_of_run is_pack part in_turn tests looks_at deciphered_block passes used check is_zero equal number bytes
-zeros-first = (refl, refl)
+zeros_first = (refl, refl)
 
 pub point_4 : Point4
 point_4 = record {
-  zero-opened = λ key pack place k l e.
+  zero_opened = λ key pack place k l e.
       let done = demand_1.hch_opening.open_done key pack place zeros k (length-replicate {A = ℕ} 512 0) l e in
       (done.0, done.1, rw done.0);
-  eight_or_twelve = λ key pack place C k h l. (block-unopened key pack place C k h l).eight_or_twelve;
-  twelve = λ key pack place C k h l. (block-unopened key pack place C k h l).twelve;
-  unopened-left = λ key pack place C e. refused-left (of_opening hch key pack place C) _ C (⊎_elim (λ e8. omega (arith, e8)) (λ e12. omega (arith, e12)) e);
+  eight_or_twelve = λ key pack place C k h l. (block_unopened key pack place C k h l).eight_or_twelve;
+  twelve = λ key pack place C k h l. (block_unopened key pack place C k h l).twelve;
+  unopened_left = λ key pack place C e. refused_left (of_opening hch key pack place C) _ C (⊎_elim (λ e8. omega (arith, e8)) (λ e12. omega (arith, e12)) e);
   run_number = λ key n pack first lengths run l b last i h m some.
-      let told = (run_unopened key n first lengths run l pack b last i h).first-number m some in
+      let told = (run_unopened key n first lengths run l pack b last i h).first_number m some in
       (λ e place. told.0 (e, place), λ e before. told.1 (e, before));
   run_twelve = λ key n pack first lengths run l b last i h.
       let told = (run_unopened key n first lengths run l pack b last i h).twelve in (
         λ e place. let first-to-fail = told.0 (e, place) in (first-to-fail.0.0, first-to-fail.0.1, first-to-fail.1),
         λ none before zero. told.1 (none, before) zero,
       );
-  zeros-opened = zeros-opened;
+  zeros_opened = zeros_opened;
   zeros_blank = zeros_blank;
   one_byte = one_byte;
-  damaged-first = damaged-first;
-  zeros-first = zeros-first;
+  damaged_first = damaged_first;
+  zeros_first = zeros_first;
 }

@@ -13,7 +13,7 @@ use Rattle.strings.specs.declared.refusal.Refusal.TheVariants.{ForwardTooShort}
 use Rattle.blocks.specs.Blocks.{IsBlock}
 use Rattle.blocks.specs.BlockField.{times_x, ◌·◌}
 use Rattle.blocks.specs.Counter.{φ}
-use Rattle.blocks.specs.Field.{times01, times_x as times_xOver, power}
+use Rattle.blocks.specs.Field.{times01, times_x as times_x_over, power}
 use Rattle.blocks.proofs.Theorems as Blocks
 use Rattle.primitives.proofs.Theorems as Aes
 use Rattle.forward.specs.Forward.{enciphered_by, deciphered_by, enciphered, deciphered, forward, forward_by}
@@ -39,12 +39,12 @@ function_block E f payload pack place b h l =
     ((Packs.theorems).any_cipher (forward_by E) [] refl ((Forward.theorems).function_cipher E f 512 (omega arith))
     ).one_block payload pack place (record { payload_bytes = b; payload_length = h; place_limit = l })
 
-aes-block : (key payload : List ℕ) (pack place : ℕ) → IsKey key → Bytes payload → length payload ≤ 496 → place ≤ 65535
+aes_block : (key payload : List ℕ) (pack place : ℕ) → IsKey key → Bytes payload → length payload ≤ 496 → place ≤ 65535
     → OneBlock forward key payload pack place (seal forward key payload pack place)
-aes-block key payload pack place k b h l = (forward_pack key k).one_block payload pack place (record { payload_bytes = b; payload_length = h; place_limit = l })
+aes_block key payload pack place k b h l = (forward_pack key k).one_block payload pack place (record { payload_bytes = b; payload_length = h; place_limit = l })
 
 x_is : times_x 1 ≡ x
-unfolding times_xOver times01 ◌⊕◌
+unfolding times_x_over times01 ◌⊕◌
 x_is = refl
 
 primitive_element : (β i : ℕ) → IsBlock β → φ times_x β i ≡ power 1 ◌·◌ x i · β
@@ -53,12 +53,12 @@ primitive_element β i h = rw x_is at ((Blocks.theorems).phi_power 128 0x87 (lit
 pub point_5 : Point5
 unfolding enciphered deciphered enciphered_by deciphered_by seal tests
 point_5 = record {
-  enciphered-by-aes = λ key tweak P. refl;
-  deciphered-by-aes = λ key tweak C. refl;
+  enciphered_by_aes = λ key tweak P. refl;
+  deciphered_by_aes = λ key tweak C. refl;
   polynomial-hash = λ τ Xs hτ h. sym ((Forward.theorems).polynomial-hash τ Xs hτ h);
   primitive_element = primitive_element;
   feistel_undone = (Forward.theorems).feistel_undone;
-  forward-numbers = message_numbers forward (λ key. refl) 33 ForwardTooShort (omega arith);
+  forward_numbers = message_numbers forward (λ key. refl) 33 ForwardTooShort (omega arith);
   forward_33 = λ message h. rw (length-drop, h);
   forward_sealing = sealing_numbers forward (λ key. refl);
   forward_opening = opening_numbers forward (λ key. refl);
@@ -69,9 +69,9 @@ point_5 = record {
   any_function_block = λ E f payload pack place b h l. (function_block E f payload pack place b h l).one;
   any_function_block_counted = λ E f payload pack place b h l. (function_block E f payload pack place b h l).counted;
   zero_function = λ a h. pow_pos 128;
-  aes_function = λ key. ((Aes.theorems).aes-permutation key).keeps;
+  aes_function = λ key. ((Aes.theorems).aes_permutation key).keeps;
   one_message = λ key tweak C t b n. ((Forward.theorems).one_plaintext key tweak (length C) t n C (refl, b)).one;
   one_message_counted = λ key tweak C t b n. ((Forward.theorems).one_plaintext key tweak (length C) t n C (refl, b)).counted;
-  one_block = λ key payload pack place k b h l. (aes-block key payload pack place k b h l).one;
-  one-block-counted = λ key payload pack place k b h l. (aes-block key payload pack place k b h l).counted;
+  one_block = λ key payload pack place k b h l. (aes_block key payload pack place k b h l).one;
+  one_block_counted = λ key payload pack place k b h l. (aes_block key payload pack place k b h l).counted;
 }

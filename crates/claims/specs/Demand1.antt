@@ -57,7 +57,7 @@ pub record SealingNumbers (S : Scheme) : Type 0 where
   pub seal_6 : (key payload : List ℕ) (place : ℕ) (block : List ℕ) → IsKey key → length block ≡ 512 → length payload ≤ 496 → 65535 < place
       → of_sealing S key payload place block ≡ 6
   -- Else the work is done: payloads of 0 and 496 bytes are sealed, and place 65,535 is.
-  pub seal-done : (key payload : List ℕ) (place : ℕ) (block : List ℕ) → IsKey key → length block ≡ 512 → length payload ≤ 496 → place ≤ 65535
+  pub seal_done : (key payload : List ℕ) (place : ℕ) (block : List ℕ) → IsKey key → length block ≡ 512 → length payload ≤ 496 → place ≤ 65535
       → of_sealing S key payload place block ≡ 0
 
 -- "Opening looks at 1, 7, 6, 8", and by Point 4 of 02 at "12, blank, in the place of 8".
@@ -81,7 +81,7 @@ pub record OpeningNumbers (S : Scheme) : Type 0 where
 
 pub record Demand1 : Type 0 where
   -- ---- The numbers of HCH's calls, and of sealing and opening by HCH.
-  pub hch-numbers : MessageNumbers of_hch 16 3
+  pub hch_numbers : MessageNumbers of_hch 16 3
   pub hch_sealing : SealingNumbers hch
   pub hch_opening : OpeningNumbers hch
   -- 17 bytes has a last block of 1 byte.
@@ -100,10 +100,10 @@ pub record Demand1 : Type 0 where
   pub library_numbers : (why : Refusal) → (0 < refusal_number why) × (refusal_number why ≤ 13) × (refusal_number why ≡ 9 → ⊥)
   -- ---- "Each leaves the lent bytes unchanged and returns its number alone".
   -- The lent bytes are left by every number but 0.
-  pub refused-left : (number : ℕ) (work lent : List ℕ) → 0 < number → left_by number work lent ≡ lent
+  pub refused_left : (number : ℕ) (work lent : List ℕ) → 0 < number → left_by number work lent ≡ lent
   -- A refusal is its number, and no value stands beside it, in the calls on messages and sealing and in opening.
   pub refused_alone : (why : Refusal) → (number_of (Refused why) ≡ refusal_number why) × (values_of (Refused why) ≡ [])
   pub not_opened_alone : (why : Refusal) → (number_of_opening (NotOpened why) ≡ refusal_number why) × (values_of_opening (NotOpened why) ≡ [])
   -- A call that was done leaves its work. The calls on messages and sealing then return nothing beside 0.
-  pub done-left : (work lent : List ℕ) → left_by 0 work lent ≡ work
+  pub done_left : (work lent : List ℕ) → left_by 0 work lent ≡ work
   pub done_alone : (number_of Done ≡ 0) × (values_of Done ≡ [])

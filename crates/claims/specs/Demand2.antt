@@ -8,8 +8,8 @@ use Rattle.hch.specs.Hch.{encipher, decipher, enciphered, deciphered}
 
 pub record Demand2 : Type 0 where
   -- ---- HCH as published: Table II line by line, with AES under the key for E and D, both ways.
-  pub enciphered-by-aes : (key tweak P : List ℕ) → enciphered key tweak P ≡ encipher (aes key).E times_x power_sum (number tweak) P
-  pub deciphered-by-aes : (key tweak C : List ℕ) → deciphered key tweak C ≡ decipher (aes key).E (aes key).D times_x power_sum (number tweak) C
+  pub enciphered_by_aes : (key tweak P : List ℕ) → enciphered key tweak P ≡ encipher (aes key).E times_x power_sum (number tweak) P
+  pub deciphered_by_aes : (key tweak C : List ℕ) → deciphered key tweak C ≡ decipher (aes key).E (aes key).D times_x power_sum (number tweak) C
   -- ---- AES of FIPS 197.
   -- Under a key of 16 bytes, Cipher and InvCipher with 10 rounds and the words of KeyExpansion for Nk = 4.
   pub aes_128 : (key : List ℕ) → length key ≡ 16 → (b : ℕ)

@@ -23,7 +23,7 @@ pub record Demand3 : Type 0 where
   pub any_permutation_counted : (c : BlockCipher) → BlockPermutation c → (T : ℕ) → IsBlock T → (C : List ℕ) → Bytes C → 16 ≤ length C
       → count (λ v. equal (encipher c.E times_x power_sum T (bytes (length C) v)) C) (256 ^ length C) ≡ 1
   -- AES is a block permutation under every key.
-  pub aes-permutation : (key : List ℕ) → BlockPermutation (aes key)
+  pub aes_permutation : (key : List ℕ) → BlockPermutation (aes key)
   -- So for HCH with AES, under every key and every tweak of 16 bytes: exactly one message, the one that deciphering gives.
   pub one_message : (key tweak C : List ℕ) → OfLength 16 tweak → Bytes C → 16 ≤ length C
       → ExactlyOne (OfLength (length C)) (λ P. equal (enciphered key tweak P) C) (deciphered key tweak C)
@@ -40,7 +40,7 @@ pub record Demand3 : Type 0 where
   pub one_block : (key payload : List ℕ) (pack place : ℕ) → IsKey key → Bytes payload → length payload ≤ 496 → place ≤ 65535
       → ExactlyOne (OfLength 512) (opens_to hch key payload pack place) (seal hch key payload pack place)
   -- Counted over all blocks of 512 bytes, there is 1.
-  pub one-block-counted : (key payload : List ℕ) (pack place : ℕ) → IsKey key → Bytes payload → length payload ≤ 496 → place ≤ 65535
+  pub one_block_counted : (key payload : List ℕ) (pack place : ℕ) → IsKey key → Bytes payload → length payload ≤ 496 → place ≤ 65535
       → count (λ v. opens_to hch key payload pack place (bytes 512 v)) (256 ^ 512) ≡ 1
   -- ---- What a count is: three of the ten numbers below 10 are 7 or more.
   pub three_of_ten : count (λ v. leb 7 v) 10 ≡ 3

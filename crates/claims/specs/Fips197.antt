@@ -15,7 +15,7 @@ counted_key = bytes 32 0x000102030405060708090a0b0c0d0e0f101112131415161718191a1
 
 pub record Fips197 : Type 0 where
   -- A.1: w[40] to w[43].
-  pub last-round-key : number (round_key (key_expansion 4 key) (Nr 4)) ≡ 0xd014f9a8c9ee2589e13f0cc8b6630ca6
+  pub last_round_key : number (round_key (key_expansion 4 key) (Nr 4)) ≡ 0xd014f9a8c9ee2589e13f0cc8b6630ca6
   -- A.3: w[56] to w[59].
   pub last_round_key_256 : number (round_key (key_expansion 8 long_key) (Nr 8)) ≡ 0xfe4890d1e6188d0b046df344706c631e
   -- B: the input and the output of the cipher.

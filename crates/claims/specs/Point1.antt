@@ -41,11 +41,11 @@ pub record Point1 : Type 0 where
   pub same_parts : (n : ℕ) (pack other : List ℕ) → IsPack n pack → IsPack n other → ((place : ℕ) → place < n → found place pack ≡ found place other)
       → pack ≡ other
   -- ---- Parts have no byte in common: where byte i of the part of p and byte j of that of q stand at one address, it is one place, and one byte of it.
-  pub parts-apart : (n p q : ℕ) (pack r s : Bor (List ℕ)) → IsPack n pack.now → p < n → q < n → BeginsAt p pack r → BeginsAt q pack s
+  pub parts_apart : (n p q : ℕ) (pack r s : Bor (List ℕ)) → IsPack n pack.now → p < n → q < n → BeginsAt p pack r → BeginsAt q pack s
       → (i j : ℕ) → i < 512 → j < 512 → address r i ≡ address s j → (p ≡ q) × (i ≡ j)
   -- ---- A block that was written to a part is found there, and every other part is what it was.
-  pub written-found : (n place : ℕ) (block pack : List ℕ) → IsPack n pack → place < n → length block ≡ 512 → found place (with_part place block pack) ≡ block
-  pub others-found : (n place other : ℕ) (block pack : List ℕ) → IsPack n pack → place < n → length block ≡ 512 → (other ≡ place → ⊥)
+  pub written_found : (n place : ℕ) (block pack : List ℕ) → IsPack n pack → place < n → length block ≡ 512 → found place (with_part place block pack) ≡ block
+  pub others_found : (n place other : ℕ) (block pack : List ℕ) → IsPack n pack → place < n → length block ≡ 512 → (other ≡ place → ⊥)
       → found other (with_part place block pack) ≡ found other pack
   -- So what is sealed into the part of a place is opened there, and every other part opens, under every key, number and place, to what it opened to before.
   pub opened_in_place : (n : ℕ) (key payload : List ℕ) (number place : ℕ) (pack : List ℕ) → IsKey key → Bytes payload → length payload ≤ 496

@@ -69,7 +69,7 @@ pub record Point2 : Type 0 where
   pub seal_6 : (key : List ℕ) (n first : ℕ) (lengths run : List ℕ) → Lent key n lengths run → NoneOver n lengths → 65535 < first + n - 1
       → of_sealing key first lengths run ≡ 6
   -- Else the work is done: a last place of 65,535 is sealed.
-  pub seal-done : (key : List ℕ) (n first : ℕ) (lengths run : List ℕ) → Lent key n lengths run → NoneOver n lengths
+  pub seal_done : (key : List ℕ) (n first : ℕ) (lengths run : List ℕ) → Lent key n lengths run → NoneOver n lengths
       → first + n - 1 ≤ 65535 → of_sealing key first lengths run ≡ 0
   -- ---- "opening at 1, 10, 11, 6, 8".
   -- 1, 10, 11 and 6, as above.
@@ -94,27 +94,27 @@ pub record Point2 : Type 0 where
   pub place_written : (lent : ℕ) → (failed_place Done lent ≡ lent) × ((why : Refusal) → failed_place (Refused why) lent ≡ lent)
       × ((why : Refusal) (place : ℕ) → failed_place (Failed why place) lent ≡ place)
   -- "If one block will not open, the whole run and the list stay unchanged", as with every other number.
-  pub unopened-left : (key : List ℕ) (pack first : ℕ) (lengths run : List ℕ) → 0 < of_opening key pack first lengths run
+  pub unopened_left : (key : List ℕ) (pack first : ℕ) (lengths run : List ℕ) → 0 < of_opening key pack first lengths run
       → (run_left hch key pack first lengths run ≡ run) × (list_left hch key pack first lengths run ≡ lengths)
   -- ---- "The bytes and lengths after a call that was done are those of the one-block calls made one by one".
   -- An order of n blocks has each number below n once: 2, 0, 1 is one of three.
   pub an_order : OrderOf 3 (2 ∷ 0 ∷ 1 ∷ [])
   -- "each payload stands at the front of its block, as long as the list says": where sealing a run is done, sealing each payload into its block is.
-  pub sealed-each : (key : List ℕ) (first : ℕ) (lengths run : List ℕ) → IsKey key → of_sealing key first lengths run ≡ 0 → (i : ℕ) → i < block_count run
+  pub sealed_each : (key : List ℕ) (first : ℕ) (lengths run : List ℕ) → IsKey key → of_sealing key first lengths run ≡ 0 → (i : ℕ) → i < block_count run
       → number_of (answer_of_block_sealing hch key (take (get_or lengths i 0) (part i run)) (first + i) (part i run)) ≡ 0
   -- And the run is what these calls leave, in any order of the blocks.
-  pub sealed-one-by-one : (key : List ℕ) (pack first : ℕ) (lengths run : List ℕ) → IsKey key → Bytes run
+  pub sealed_one_by_one : (key : List ℕ) (pack first : ℕ) (lengths run : List ℕ) → IsKey key → Bytes run
       → of_sealing key first lengths run ≡ 0 → (order : List ℕ) → OrderOf (block_count run) order
       → one_by_one (λ i B. let payload = take (get_or lengths i 0) B in
       left_by (number_of (answer_of_block_sealing hch key payload (first + i) B)) (seal hch key payload pack (first + i)) B) order run
       ≡ sealed_run hch key pack first lengths run
   -- Where opening a run is done, opening each block is, and the list has the length that it returns.
-  pub opened-each : (key : List ℕ) (pack first : ℕ) (lengths run : List ℕ) → IsKey key → Bytes run
+  pub opened_each : (key : List ℕ) (pack first : ℕ) (lengths run : List ℕ) → IsKey key → Bytes run
       → of_opening key pack first lengths run ≡ 0 → (i : ℕ) → i < block_count run
       → (of_block key pack first run i ≡ 0)
       × (values_of_block (answer_of_block_opening hch key pack (first + i) (part i run)) ≡ get_or (used_lengths hch key pack first run) i 0 ∷ [])
   -- And the run is what these calls leave, in any order of the blocks.
-  pub opened-one-by-one : (key : List ℕ) (pack first : ℕ) (lengths run : List ℕ) → IsKey key → Bytes run
+  pub opened_one_by_one : (key : List ℕ) (pack first : ℕ) (lengths run : List ℕ) → IsKey key → Bytes run
       → of_opening key pack first lengths run ≡ 0 → (order : List ℕ) → OrderOf (block_count run) order
       → one_by_one (λ i C. left_by (number_of_block (answer_of_block_opening hch key pack (first + i) C)) (deciphered_block hch key pack (first + i) C) C) order run
       ≡ deciphered_run hch key pack first run

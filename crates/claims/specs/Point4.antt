@@ -25,7 +25,7 @@ unchanged = record { is_key = λ key. true; encipher = λ key tweak message. mes
 
 pub record Point4 : Type 0 where
   -- ---- "A zero block that passes its check is opened as any other."
-  pub zero-opened : (key : List ℕ) (pack place : ℕ) → IsKey key → place ≤ 65535 → passes pack place (deciphered_block hch key pack place zeros) ≡ true
+  pub zero_opened : (key : List ℕ) (pack place : ℕ) → IsKey key → place ≤ 65535 → passes pack place (deciphered_block hch key pack place zeros) ≡ true
       → (of_opening hch key pack place zeros ≡ 0) × (values_of (answer_of hch key pack place zeros) ≡ used (deciphered_block hch key pack place zeros) ∷ [])
       × (left_by (of_opening hch key pack place zeros) (deciphered_block hch key pack place zeros) zeros ≡ deciphered_block hch key pack place zeros)
   -- ---- "Where 1, 7 and 6 do not apply, no payload seals to the block exactly when it is answered with 8 or blank."
@@ -36,7 +36,7 @@ pub record Point4 : Type 0 where
       → (of_opening hch key pack place C ≡ 12 → NoneSealsTo key pack place C × (C ≡ zeros))
       × (NoneSealsTo key pack place C → C ≡ zeros → of_opening hch key pack place C ≡ 12)
   -- With either, the lent bytes are left as they were.
-  pub unopened-left : (key : List ℕ) (pack place : ℕ) (C : List ℕ) → EightOrTwelve (of_opening hch key pack place C)
+  pub unopened_left : (key : List ℕ) (pack place : ℕ) (C : List ℕ) → EightOrTwelve (of_opening hch key pack place C)
       → left_by (of_opening hch key pack place C) (deciphered_block hch key pack place C) C ≡ C
   -- ---- "a run gives the number of its first block that will not open".
   -- A number m, not 0, and the place of block i are answered exactly if block i by itself is answered with m and each block before it opens.
@@ -54,9 +54,9 @@ pub record Point4 : Type 0 where
       → (of_run key pack first lengths run ≡ 12) × (values_of_run (answer_of_run hch key pack first lengths run) ≡ (first + i) ∷ []))
   -- ---- Examples, with nothing enciphered. By 01's P13 zeros are the plain block of an empty payload, pack 0, place 0, and are opened; for pack 1 they are blank,
   -- and with a last byte of 1 they are answered with 8.
-  pub zeros-opened : (number_of (answer_of unchanged [] 0 0 zeros) ≡ 0) × (values_of (answer_of unchanged [] 0 0 zeros) ≡ 0 ∷ [])
+  pub zeros_opened : (number_of (answer_of unchanged [] 0 0 zeros) ≡ 0) × (values_of (answer_of unchanged [] 0 0 zeros) ≡ 0 ∷ [])
   pub zeros_blank : number_of (answer_of unchanged [] 1 0 zeros) ≡ 12
   pub one_byte : number_of (answer_of unchanged [] 1 0 damaged) ≡ 8
   -- Of a run of both, for the places 3 and 4, the first decides.
-  pub damaged-first : let answer = answer_of_run unchanged [] 1 3 (0 ∷ 0 ∷ []) (damaged ++ zeros) in (number_of_run answer ≡ 8) × (values_of_run answer ≡ 3 ∷ [])
-  pub zeros-first : let answer = answer_of_run unchanged [] 1 3 (0 ∷ 0 ∷ []) (zeros ++ damaged) in (number_of_run answer ≡ 12) × (values_of_run answer ≡ 3 ∷ [])
+  pub damaged_first : let answer = answer_of_run unchanged [] 1 3 (0 ∷ 0 ∷ []) (damaged ++ zeros) in (number_of_run answer ≡ 8) × (values_of_run answer ≡ 3 ∷ [])
+  pub zeros_first : let answer = answer_of_run unchanged [] 1 3 (0 ∷ 0 ∷ []) (zeros ++ damaged) in (number_of_run answer ≡ 12) × (values_of_run answer ≡ 3 ∷ [])

@@ -29,8 +29,8 @@ pub record Point5 : Type 0 where
   -- ---- "Add the scheme of source document 000 in its form with the modified counter, polynomial hashing and the first key definition, both ways, from its Tables 1
   -- to 3", "The bytes written are those of that paper": the definitions that the bytes follow, with AES's encryption under the key, both ways. AES's decryption, D, does
   -- not occur in them.
-  pub enciphered-by-aes : (key tweak P : List ℕ) → enciphered key tweak P ≡ encipher (aes key).E times_x power_sum (number tweak) P
-  pub deciphered-by-aes : (key tweak C : List ℕ) → deciphered key tweak C ≡ decipher (aes key).E times_x power_sum (number tweak) C
+  pub enciphered_by_aes : (key tweak P : List ℕ) → enciphered key tweak P ≡ encipher (aes key).E times_x power_sum (number tweak) P
+  pub deciphered_by_aes : (key tweak C : List ℕ) → deciphered key tweak C ≡ decipher (aes key).E times_x power_sum (number tweak) C
   -- The polynomial hash is the paper's.
   pub polynomial-hash : (τ : ℕ) (Xs : List ℕ) → IsBlock τ → Below (2 ^ 128) Xs → power_sum τ Xs ≡ τ · Poly τ Xs
   -- "Its primitive element is x in our field." That x is primitive is not shown, and nothing here rests on it.
@@ -39,7 +39,7 @@ pub record Point5 : Type 0 where
   pub feistel_undone : (E : ℕ → ℕ) (h : ℕ → List ℕ → ℕ) (τ' A₁ A₂ : ℕ)
       → let B = Feistel E h τ' A₁ A₂ in swapped_feistel E h τ' B.0 B.1 ≡ (A₁, A₂)
   -- ---- "Lengths are 33 to 4,096 bytes", "13, data under 33 bytes for this scheme; it stands where 3 stood in the order": 1, 2, 13, 4.
-  pub forward-numbers : MessageNumbers of_forward 33 13
+  pub forward_numbers : MessageNumbers of_forward 33 13
   -- 33 bytes has a last block of 1 byte.
   pub forward_33 : (message : List ℕ) → length message ≡ 33 → length (behind_two message) ≡ 1
   -- ---- "Blocks of 512 bytes can be sealed and opened under it by calls of their own": with HCH's numbers.
@@ -72,5 +72,5 @@ pub record Point5 : Type 0 where
       → count (λ v. equal (enciphered key tweak (bytes (length C) v)) C) (256 ^ length C) ≡ 1
   pub one_block : (key payload : List ℕ) (pack place : ℕ) → IsKey key → Bytes payload → length payload ≤ 496 → place ≤ 65535
       → ExactlyOne (OfLength 512) (opens_to forward key payload pack place) (seal forward key payload pack place)
-  pub one-block-counted : (key payload : List ℕ) (pack place : ℕ) → IsKey key → Bytes payload → length payload ≤ 496 → place ≤ 65535
+  pub one_block_counted : (key payload : List ℕ) (pack place : ℕ) → IsKey key → Bytes payload → length payload ≤ 496 → place ≤ 65535
       → count (λ v. opens_to forward key payload pack place (bytes 512 v)) (256 ^ 512) ≡ 1

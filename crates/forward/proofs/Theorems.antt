@@ -13,15 +13,15 @@ use Rattle.strings.specs.Cipher.{Cipher, TweakableCipher, Same}
 use Rattle.blocks.specs.BlockCipher.{BlockCipher}
 use Rattle.blocks.specs.Blocks.{IsBlock, bin, pad, first_block, cut, blocks, string}
 use Rattle.blocks.specs.Counter.{masked, φ}
-use Rattle.blocks.specs.Field.{times01, times_x as times_xOver, product_n, product, power, power_sum as power_sum_over}
+use Rattle.blocks.specs.Field.{times01, times_x as times_x_over, product_n, product, power, power_sum as power_sum_over}
 use Rattle.blocks.specs.BlockField.{times_x, ◌·◌, power_sum}
 use Rattle.primitives.specs.Aes.{aes}
 use Rattle.primitives.specs.Expanded.{expanded_key, under}
 use Rattle.primitives.specs.declared.aes.ExpandedKey.{ExpandedKey}
-use Rattle.strings.proofs.Bytes.{number-below}
+use Rattle.strings.proofs.Bytes.{number_below}
 use Rattle.strings.proofs.One.{one_preimage}
 use Rattle.blocks.proofs.Ring.{x_below, ring_of_blocks}
-use Rattle.blocks.proofs.Horner.{power_below, power-sum-below}
+use Rattle.blocks.proofs.Horner.{power_below, power_sum_below}
 use Rattle.primitives.proofs.Theorems as Aes
 use Rattle.forward.specs.Forward.{KeyDef1, MCTR, Υ, Feistel, swapped_feistel, encipher, decipher, Parts, Poly, enciphered_by, deciphered_by, enciphered, deciphered, forward}
 use Rattle.forward.specs.Expanded.{forward_under}
@@ -32,7 +32,7 @@ own_parts : (E : ℕ → ℕ) → BlockFunction E → Parts E times_x power_sum
 own_parts E keeps = record {
   function_keeps = keeps;
   step_keeps = λ a h. x_below 128 0x87 (lit< tt) a;
-  hash-keeps = λ τ Xs hτ h. power-sum-below ring_of_blocks τ hτ Xs h;
+  hash_keeps = λ τ Xs hτ h. power_sum_below ring_of_blocks τ hτ Xs h;
 }
 
 -- The proof holds from 32 bytes on; 33 is the paper's least length.
@@ -42,14 +42,14 @@ scheme_cipher E times_x h parts T n hT l = Scheme.scheme_cipher parts T n hT (om
 
 by_function : (E : ℕ → ℕ) → BlockFunction E → (n : ℕ) → 33 ≤ n → TweakableCipher 16 n (enciphered_by E) (deciphered_by E)
 unfolding enciphered_by deciphered_by
-by_function E keeps n l tweak t = scheme_cipher E times_x power_sum (own_parts E keeps) (number tweak) n (rw t.0 at (number-below tweak t.1)) l
+by_function E keeps n l tweak t = scheme_cipher E times_x power_sum (own_parts E keeps) (number tweak) n (rw t.0 at (number_below tweak t.1)) l
 
 pub under-cipher : (expanded : ExpandedKey) (n : ℕ) → 33 ≤ n → TweakableCipher 16 n ((forward_under expanded).encipher []) ((forward_under expanded).decipher [])
-under-cipher expanded = by_function (under expanded).E ((Aes.theorems).under-permutation expanded).keeps
+under-cipher expanded = by_function (under expanded).E ((Aes.theorems).under_permutation expanded).keeps
 
 forward-cipher : (key : List ℕ) (n : ℕ) → 33 ≤ n → TweakableCipher 16 n (enciphered key) (deciphered key)
 unfolding enciphered deciphered
-forward-cipher key = by_function (aes key).E ((Aes.theorems).aes-permutation key).keeps
+forward-cipher key = by_function (aes key).E ((Aes.theorems).aes_permutation key).keeps
 
 pub same_expanded : (key : List ℕ) → forward.is_key key ≡ true → Same (forward_under (expanded_key key)) [] forward key
 unfolding enciphered deciphered
@@ -67,11 +67,11 @@ polynomial-hash τ (X ∷ Xs) hτ h =
     rw (ring_of_blocks.add_right τ (τⁿ · X) (Poly τ Xs), turned, polynomial-hash τ Xs hτ (λ i. h (suc i)))
 
 example_enciphered : encipher example_function times_x power_sum example_tweak example_plaintext ≡ example_ciphertext
-unfolding encipher KeyDef1 MCTR Υ Feistel φ masked blocks cut first_block pad string bin number bytes power_sum_over power product product_n times_xOver times01 ◌⊕◌
+unfolding encipher KeyDef1 MCTR Υ Feistel φ masked blocks cut first_block pad string bin number bytes power_sum_over power product product_n times_x_over times01 ◌⊕◌
 example_enciphered = refl
 
 example_deciphered : decipher example_function times_x power_sum example_tweak example_ciphertext ≡ example_plaintext
-unfolding decipher KeyDef1 MCTR Υ Feistel swapped_feistel φ masked blocks cut first_block pad string bin number bytes power_sum_over power product product_n times_xOver times01 ◌⊕◌
+unfolding decipher KeyDef1 MCTR Υ Feistel swapped_feistel φ masked blocks cut first_block pad string bin number bytes power_sum_over power product product_n times_x_over times01 ◌⊕◌
 example_deciphered = refl
 
 pub theorems : Theorems

@@ -114,7 +114,7 @@ module _ (E times_x : ℕ → ℕ) (h : ℕ → List ℕ → ℕ) where
 pub record Parts (E times_x : ℕ → ℕ) (h : ℕ → List ℕ → ℕ) : Type 0 where
   pub function_keeps : (a : ℕ) → IsBlock a → IsBlock (E a)
   pub step_keeps : (a : ℕ) → IsBlock a → IsBlock (times_x a)
-  pub hash-keeps : (τ : ℕ) (Xs : List ℕ) → IsBlock τ → Below (2 ^ 128) Xs → IsBlock (h τ Xs)
+  pub hash_keeps : (τ : ℕ) (Xs : List ℕ) → IsBlock τ → Below (2 ^ 128) Xs → IsBlock (h τ Xs)
 
 -- "Usual polynomial hashing", Poly with τ over X₁, …, Xₘ: τ ^ (m - 1) X₁ ⊕ … ⊕ τ Xₘ₋₁ ⊕ Xₘ. The hash is τ times this. By the theorem `polynomial-hash` that is
 -- X₁ τ ^ m ⊕ … ⊕ Xₘ τ, `power_sum` of the blocks' BlockField.antt.

@@ -12,7 +12,7 @@ use Rattle.blocks.specs.Blocks.{bin, pad, first_block, cut, blocks}
 use Rattle.blocks.specs.BlockField.{◌·◌, power_sum}
 use Rattle.blocks.specs.Field.{power, power_sum as power_sum_over}
 use Rattle.blocks.proofs.Ring.{ring_of_blocks}
-use Rattle.strings.proofs.Xor.{xor-zero}
+use Rattle.strings.proofs.Xor.{xor_zero}
 use Rattle.hch.specs.Hch.{length_block, behind_first, H}
 
 -- bin for 20 bytes is a0; for 512 bytes 1000; for 4,096 bytes 8000
@@ -32,8 +32,8 @@ sum_of_zero : (As : List ℕ) → power_sum 0 As ≡ 0
 unfolding power_sum_over power
 sum_of_zero [] = refl
 sum_of_zero (A ∷ As) =
-    rw (ring_of_blocks.zero_left (power 1 ◌·◌ 0 (length As)), ring_of_blocks.zero_right A, sum_of_zero As, xor-zero)
+    rw (ring_of_blocks.zero_left (power 1 ◌·◌ 0 (length As)), ring_of_blocks.zero_right A, sum_of_zero As, xor_zero)
 
 pub p11 : (Q A₁ : ℕ) (As : List ℕ) → H power_sum 0 Q A₁ As ≡ Q ⊕ A₁
 unfolding H
-p11 Q A₁ As = rw (sum_of_zero As, xor-zero)
+p11 Q A₁ As = rw (sum_of_zero As, xor_zero)

@@ -20,12 +20,12 @@ use Rattle.blocks.specs.BlockCipher.{BlockCipher, BlockPermutation}
 use Rattle.primitives.specs.Aes.{aes}
 use Rattle.primitives.specs.Expanded.{expanded_key, under}
 use Rattle.primitives.specs.declared.aes.ExpandedKey.{ExpandedKey}
-use Rattle.strings.proofs.Xor.{xor-zero, xor_comm}
-use Rattle.strings.proofs.Bytes.{number-below}
+use Rattle.strings.proofs.Xor.{xor_zero, xor_comm}
+use Rattle.strings.proofs.Bytes.{number_below}
 use Rattle.blocks.proofs.Blocks.{blocks_nil}
 use Rattle.strings.proofs.One.{one_preimage}
 use Rattle.blocks.proofs.Ring.{x_below, ring_of_blocks}
-use Rattle.blocks.proofs.Horner.{power-sum-below}
+use Rattle.blocks.proofs.Horner.{power_sum_below}
 use Rattle.primitives.proofs.Theorems as Aes
 use Rattle.hch.specs.Hch.{length_block, H, Ctr, encipher, Parts, enciphered_by, deciphered_by, enciphered, deciphered, hch}
 use Rattle.hch.specs.Expanded.{hch_under}
@@ -36,24 +36,24 @@ own_parts : (c : BlockCipher) → BlockPermutation c → Parts c.E c.D times_x p
 own_parts c p = record {
   permutation = p;
   step_keeps = λ a h. x_below 128 0x87 (lit< tt) a;
-  sum-keeps = λ R As hR h. power-sum-below ring_of_blocks R hR As h;
+  sum_keeps = λ R As hR h. power_sum_below ring_of_blocks R hR As h;
 }
 
-tweak-block : (tweak : List ℕ) → OfLength 16 tweak → IsBlock (number tweak)
-tweak-block tweak h = rw h.0 at (number-below tweak h.1)
+tweak_block : (tweak : List ℕ) → OfLength 16 tweak → IsBlock (number tweak)
+tweak_block tweak h = rw h.0 at (number_below tweak h.1)
 
 -- HCH with 01's step and sum and any block permutation; under any expanded key; under any key.
-by-cipher : (c : BlockCipher) → BlockPermutation c → (tweak : List ℕ) (n : ℕ) → OfLength 16 tweak → 16 ≤ n → Cipher n (enciphered_by c tweak) (deciphered_by c tweak)
+by_cipher : (c : BlockCipher) → BlockPermutation c → (tweak : List ℕ) (n : ℕ) → OfLength 16 tweak → 16 ≤ n → Cipher n (enciphered_by c tweak) (deciphered_by c tweak)
 unfolding enciphered_by deciphered_by
-by-cipher c p tweak n h l = scheme_cipher (own_parts c p) (number tweak) n (tweak-block tweak h) l
+by_cipher c p tweak n h l = scheme_cipher (own_parts c p) (number tweak) n (tweak_block tweak h) l
 
 pub under-cipher : (expanded : ExpandedKey) (tweak : List ℕ) (n : ℕ) → OfLength 16 tweak → 16 ≤ n
     → Cipher n (enciphered_by (under expanded) tweak) (deciphered_by (under expanded) tweak)
-under-cipher expanded = by-cipher (under expanded) ((Aes.theorems).under-permutation expanded)
+under-cipher expanded = by_cipher (under expanded) ((Aes.theorems).under_permutation expanded)
 
 pub hch-cipher : (key tweak : List ℕ) (n : ℕ) → OfLength 16 tweak → 16 ≤ n → Cipher n (enciphered key tweak) (deciphered key tweak)
 unfolding enciphered deciphered
-hch-cipher key = by-cipher (aes key) ((Aes.theorems).aes-permutation key)
+hch-cipher key = by_cipher (aes key) ((Aes.theorems).aes_permutation key)
 
 one_plaintext : (key tweak : List ℕ) (n : ℕ) → OfLength 16 tweak → 16 ≤ n
     → (C : List ℕ) → OfLength n C → OnePreimage n (enciphered key tweak) C (deciphered key tweak C)
@@ -71,7 +71,7 @@ unfolding encipher H Ctr masked string power_sum_over
 one_block E step T P h =
     let Q : ℕ = E (E T ⊕ length_block 16) in
     let short : length P ≤ 16 = omega (arith, h) in
-    rw (h, take_all 16 P short, drop_of_length-le P short, blocks_nil, append-nil) (simp (xor-zero, xor_comm Q (number P)))
+    rw (h, take_all 16 P short, drop_of_length-le P short, blocks_nil, append-nil) (simp (xor_zero, xor_comm Q (number P)))
 
 pub theorems : Theorems
 theorems = record {

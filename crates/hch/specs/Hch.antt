@@ -87,7 +87,7 @@ module _ (E D times_x : ℕ → ℕ) (sum : ℕ → List ℕ → ℕ) where
 pub record Parts (E D times_x : ℕ → ℕ) (sum : ℕ → List ℕ → ℕ) : Type 0 where
   pub permutation : Permutation IsBlock E D
   pub step_keeps : (a : ℕ) → IsBlock a → IsBlock (times_x a)
-  pub sum-keeps : (R : ℕ) (As : List ℕ) → IsBlock R → Below (2 ^ 128) As → IsBlock (sum R As)
+  pub sum_keeps : (R : ℕ) (As : List ℕ) → IsBlock R → Below (2 ^ 128) As → IsBlock (sum R As)
 
 -- ---- HCH with 01's field and the sum of blocks times powers, and any block cipher
 

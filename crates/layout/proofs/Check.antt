@@ -12,8 +12,8 @@ use lib.ListN.{length, take, drop, replicate, length-append, length-replicate, l
 use lib.Seq.{drop-drop, drop_at, take_all, take_at, length-take-le}
 use Rattle.strings.specs.Bytes.{Bytes, OfLength, number, bytes, equal}
 use Rattle.strings.specs.Inner.{padded, overwrite}
-use Rattle.strings.proofs.Bytes.{length-bytes, bytes_below, bytes-number, number-below, number-bytes, below-append, below-take, below-drop, padded-take}
-use Rattle.strings.proofs.Place.{number_fits, overwrite_head, overwrite-append, overwrite-whole}
+use Rattle.strings.proofs.Bytes.{length-bytes, bytes_below, bytes-number, number_below, number-bytes, below_append, below_take, below_drop, padded-take}
+use Rattle.strings.proofs.Place.{number_fits, overwrite_head, overwrite-append, overwrite_whole}
 use Rattle.strings.proofs.Equal.{both, equal-append, equal_refl, equal_true}
 use Rattle.layout.specs.Layout.{check, plain_block, tweak, used, passes, is_zero}
 use Rattle.layout.specs.Inner.{fits, verdict_of}
@@ -27,11 +27,11 @@ used-bytes B h =
     let two : 2 ≤ length (drop 508 B) = rw (length-drop, h.0) (omega arith) in
     rw (padded-take 2 (drop 508 B) two) (mod-eq_of_lt (rw (padded-take 2 (drop 508 B) two) at (number_fits 2 8 508 B h.1 (omega arith))))
 
-pub used-below : (B : List ℕ) → OfLength 512 B → used B < 65536
+pub used_below : (B : List ℕ) → OfLength 512 B → used B < 65536
 unfolding used
-used-below B h =
+used_below B h =
     let two : length (take 2 (drop 508 B)) ≡ 2 = length-take-le 2 (drop 508 B) (rw (length-drop, h.0) (omega arith)) in
-    rw two at (number-below (take 2 (drop 508 B)) (below-take 2 (drop 508 B) (below-drop 508 B h.1)))
+    rw two at (number_below (take 2 (drop 508 B)) (below_take 2 (drop 508 B) (below_drop 508 B h.1)))
 
 -- The number 0 is zeros.
 zeros : (n : ℕ) → bytes n 0 ≡ replicate n 0
@@ -49,15 +49,15 @@ unfolding plain_block
 length_plain payload pack place h = rw (length-append, length-check (length payload) pack place) (omega arith)
 
 -- Writing one behind the other.
-overwrite-behind : (i j : ℕ) (t u s : List ℕ) → i + length t ≡ j → overwrite i (t ++ u) s ≡ overwrite j u (overwrite i t s)
-overwrite-behind i j t u s e = rw (overwrite-append i t u s, e)
+overwrite_behind : (i j : ℕ) (t u s : List ℕ) → i + length t ≡ j → overwrite i (t ++ u) s ≡ overwrite j u (overwrite i t s)
+overwrite_behind i j t u s e = rw (overwrite-append i t u s, e)
 
 -- The parts of the check, written each at its place.
-pub check-written : (u pack place : ℕ) (s : List ℕ) → u ≤ 496
+pub check_written : (u pack place : ℕ) (s : List ℕ) → u ≤ 496
     → overwrite 510 (bytes 2 0) (overwrite 508 (bytes 2 u) (overwrite 504 (bytes 4 place) (overwrite 496 (bytes 8 pack)
     (overwrite u (bytes (496 - u) 0) s)))) ≡ overwrite u (check u pack place) s
 unfolding check
-check-written u pack place s h =
+check_written u pack place s h =
     let filling : List ℕ = replicate (496 - u) 0 in
     let at496 : u + length filling ≡ 496 = rw length-replicate (omega arith) in
     let at504 : u + length (filling ++ bytes 8 pack) ≡ 504 = rw (length-append, length-replicate, length-bytes) (omega arith) in
@@ -68,10 +68,10 @@ check-written u pack place s h =
     rw (
       zeros (496 - u),
       zeros 2,
-      overwrite-behind u 510 (filling ++ bytes 8 pack ++ bytes 4 place ++ bytes 2 u) (replicate 2 0) s at510,
-      overwrite-behind u 508 (filling ++ bytes 8 pack ++ bytes 4 place) (bytes 2 u) s at508,
-      overwrite-behind u 504 (filling ++ bytes 8 pack) (bytes 4 place) s at504,
-      overwrite-behind u 496 filling (bytes 8 pack) s at496,
+      overwrite_behind u 510 (filling ++ bytes 8 pack ++ bytes 4 place ++ bytes 2 u) (replicate 2 0) s at510,
+      overwrite_behind u 508 (filling ++ bytes 8 pack ++ bytes 4 place) (bytes 2 u) s at508,
+      overwrite_behind u 504 (filling ++ bytes 8 pack) (bytes 4 place) s at504,
+      overwrite_behind u 496 filling (bytes 8 pack) s at496,
     )
 
 -- The payload and its check, written over any 512 bytes.
@@ -79,8 +79,8 @@ pub plain_written : (payload s : List ℕ) (pack place : ℕ) → length payload
     → overwrite (length payload) (check (length payload) pack place) (overwrite 0 payload s) ≡ plain_block payload pack place
 unfolding plain_block
 plain_written payload s pack place h l =
-    sym (overwrite-behind 0 (length payload) payload (check (length payload) pack place) s (zero-add (length payload)))
-    ∙ overwrite-whole (payload ++ check (length payload) pack place) s (length_plain payload pack place h ∙ sym l)
+    sym (overwrite_behind 0 (length payload) payload (check (length payload) pack place) s (zero-add (length payload)))
+    ∙ overwrite_whole (payload ++ check (length payload) pack place) s (length_plain payload pack place h ∙ sym l)
 
 -- A string is a check where each part of it is at its place.
 check-parts : (u pack place : ℕ) (B : List ℕ) → length B ≡ 512 → u ≤ 496
@@ -121,7 +121,7 @@ unfolding used
 own_part B h =
     let two : length (take 2 (drop 508 B)) ≡ 2 = rw (length-take, length-drop, h.0) in
     let back : bytes 2 (number (take 2 (drop 508 B))) ≡ take 2 (drop 508 B) =
-    rw two at (bytes-number (take 2 (drop 508 B)) (below-take 2 (drop 508 B) (below-drop 508 B h.1))) in
+    rw two at (bytes-number (take 2 (drop 508 B)) (below_take 2 (drop 508 B) (below_drop 508 B h.1))) in
     rw back (equal_refl (take 2 (drop 508 B)))
 
 -- The check is passed where each part of it is what it should be; u is read from its own part.
@@ -139,30 +139,30 @@ passes-parts pack place B h l =
     rw (le-leb u 496 l, check-parts u pack place B h.0 l, own_part B h, and_assoc (filling && number) location last, and_assoc filling number (location && last))
 
 -- The tweak and the plain block are strings of 16 and of 512 bytes.
-zeros-below : (n : ℕ) → Bytes (replicate n 0)
-zeros-below n = rw (sym (zeros n)) (bytes_below n 0)
+zeros_below : (n : ℕ) → Bytes (replicate n 0)
+zeros_below n = rw (sym (zeros n)) (bytes_below n 0)
 
 pub tweak_of_length : (pack place : ℕ) → OfLength 16 (tweak pack place)
 unfolding tweak
 tweak_of_length pack place = (
   simp (length-append, length-replicate, length-bytes),
-  below-append (bytes 8 pack ++ replicate 4 0) (bytes 4 place)
-      (below-append (bytes 8 pack) (replicate 4 0) (bytes_below 8 pack) (zeros-below 4)) (bytes_below 4 place),
+  below_append (bytes 8 pack ++ replicate 4 0) (bytes 4 place)
+      (below_append (bytes 8 pack) (replicate 4 0) (bytes_below 8 pack) (zeros_below 4)) (bytes_below 4 place),
 )
 
-check-below : (u pack place : ℕ) → Bytes (check u pack place)
+check_below : (u pack place : ℕ) → Bytes (check u pack place)
 unfolding check
-check-below u pack place =
+check_below u pack place =
     let filling : List ℕ = replicate (496 - u) 0 in
-    below-append (filling ++ bytes 8 pack ++ bytes 4 place ++ bytes 2 u) (replicate 2 0)
-    (below-append (filling ++ bytes 8 pack ++ bytes 4 place) (bytes 2 u)
-    (below-append (filling ++ bytes 8 pack) (bytes 4 place)
-    (below-append filling (bytes 8 pack) (zeros-below (496 - u)) (bytes_below 8 pack)) (bytes_below 4 place)) (bytes_below 2 u)) (zeros-below 2)
+    below_append (filling ++ bytes 8 pack ++ bytes 4 place ++ bytes 2 u) (replicate 2 0)
+    (below_append (filling ++ bytes 8 pack ++ bytes 4 place) (bytes 2 u)
+    (below_append (filling ++ bytes 8 pack) (bytes 4 place)
+    (below_append filling (bytes 8 pack) (zeros_below (496 - u)) (bytes_below 8 pack)) (bytes_below 4 place)) (bytes_below 2 u)) (zeros_below 2)
 
 pub plain_of_length : (payload : List ℕ) (pack place : ℕ) → Bytes payload → length payload ≤ 496 → OfLength 512 (plain_block payload pack place)
 unfolding plain_block
 plain_of_length payload pack place b h =
-    (length_plain payload pack place h, below-append payload (check (length payload) pack place) b (check-below (length payload) pack place))
+    (length_plain payload pack place h, below_append payload (check (length payload) pack place) b (check_below (length payload) pack place))
 
 -- The plain block of a payload holds its length, and passes its check.
 module _ (payload : List ℕ) (pack place : ℕ) (h : length payload ≤ 496) where
@@ -194,10 +194,10 @@ module _ (payload : List ℕ) (pack place : ℕ) (h : length payload ≤ 496) wh
       rw (used_plain, le-leb (length payload) 496 h, drop_plain) (equal_refl (check (length payload) pack place))
 
 -- And nothing else does.
-pub passes-only : (pack place : ℕ) (B : List ℕ) → length B ≡ 512 → passes pack place B ≡ true
+pub passes_only : (pack place : ℕ) (B : List ℕ) → length B ≡ 512 → passes pack place B ≡ true
     → (used B ≤ 496) × (B ≡ plain_block (take (used B) B) pack place)
 unfolding passes plain_block
-passes-only pack place B h e =
+passes_only pack place B h e =
     let parts = both (leb (used B) 496) (equal (drop (used B) B) (check (used B) pack place)) e in
     let l = leb-true (used B) 496 parts.0 in
     let n : length (take (used B) B) ≡ used B = length-take-le (used B) B (omega (arith, h)) in
@@ -227,17 +227,17 @@ length_of (Passed u) = u
 length_of Failed = 0
 
 module _ (pack place : ℕ) (B : List ℕ) where
-  by-passed : (u : ℕ) (t : Bool) → Passed u ≡ cond t (Passed (used B)) Failed → (t ≡ true) × (u ≡ used B)
-  by-passed u true e = (refl, ap length_of e)
-  by-passed u false e = absurd (false≢true (sym (ap was_passed e)))
+  by_passed : (u : ℕ) (t : Bool) → Passed u ≡ cond t (Passed (used B)) Failed → (t ≡ true) × (u ≡ used B)
+  by_passed u true e = (refl, ap length_of e)
+  by_passed u false e = absurd (false≢true (sym (ap was_passed e)))
 
   by_failed : (t : Bool) → Failed ≡ cond t (Passed (used B)) Failed → t ≡ false
   by_failed true e = absurd (false≢true (ap was_passed e))
   by_failed false e = refl
 
-  pub read-passed : (u : ℕ) → Passed u ≡ verdict_of pack place B → (passes pack place B ≡ true) × (u ≡ used B)
+  pub read_passed : (u : ℕ) → Passed u ≡ verdict_of pack place B → (passes pack place B ≡ true) × (u ≡ used B)
   unfolding verdict_of
-  read-passed u = by-passed u (passes pack place B)
+  read_passed u = by_passed u (passes pack place B)
 
   pub read_failed : Failed ≡ verdict_of pack place B → passes pack place B ≡ false
   unfolding verdict_of
@@ -269,24 +269,24 @@ completed u block pack place l h =
     rw (both_fit (take u block) block (omega (arith, size, h)) l) (rw (whole, size) at (plain_written (take u block) block pack place (omega (arith, size, h)) l))
 
 -- A block of zeros, and no other, is told to be one, by comparing 512 bytes with the number 0.
-pub zero-only : (C : List ℕ) → is_zero C ≡ true → C ≡ replicate 512 0
+pub zero_only : (C : List ℕ) → is_zero C ≡ true → C ≡ replicate 512 0
 unfolding is_zero
-zero-only C = equal_true C (replicate 512 0)
+zero_only C = equal_true C (replicate 512 0)
 
-pub zero-told : (C : List ℕ) → C ≡ replicate 512 0 → is_zero C ≡ true
+pub zero_told : (C : List ℕ) → C ≡ replicate 512 0 → is_zero C ≡ true
 unfolding is_zero
-zero-told C e = rw e (equal_refl (replicate 512 0))
+zero_told C e = rw e (equal_refl (replicate 512 0))
 
 pub not_zero : (C : List ℕ) → (C ≡ replicate 512 0 → ⊥) → is_zero C ≡ false
 not_zero C h = by (is_zero C) refl
   where
     by : (t : Bool) → is_zero C ≡ t → t ≡ false
     by false e = refl
-    by true e = absurd (h (zero-only C e))
+    by true e = absurd (h (zero_only C e))
 
-pub zero-length : (C : List ℕ) → (length C ≡ 512 → ⊥) → is_zero C ≡ false
-zero-length C h = not_zero C (λ e. h (ap length e ∙ length-replicate {A = ℕ} 512 0))
+pub zero_length : (C : List ℕ) → (length C ≡ 512 → ⊥) → is_zero C ≡ false
+zero_length C h = not_zero C (λ e. h (ap length e ∙ length-replicate {A = ℕ} 512 0))
 
-pub zero-bytes : (C : List ℕ) → length C ≡ 512 → equal (take 512 (drop 0 C)) (bytes 512 0) ≡ is_zero C
+pub zero_bytes : (C : List ℕ) → length C ≡ 512 → equal (take 512 (drop 0 C)) (bytes 512 0) ≡ is_zero C
 unfolding is_zero
-zero-bytes C h = rw (take_all 512 C (omega (arith, h)), zeros 512)
+zero_bytes C h = rw (take_all 512 C (omega (arith, h)), zeros 512)

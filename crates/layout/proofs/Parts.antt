@@ -19,8 +19,8 @@ use Rattle.layout.specs.Finding.{block_count, is_pack, part, parts, with_part, t
 
 -- ---- what an answer tells
 
-pub none-refused : (place : ℕ) (pack : List ℕ) → number_of (answer_of place pack) ≡ 0 → answer_of place pack ≡ Done
-none-refused place pack e = all_passed (tests place pack) (none_holds (tests place pack) e)
+pub none_refused : (place : ℕ) (pack : List ℕ) → number_of (answer_of place pack) ≡ 0 → answer_of place pack ≡ Done
+none_refused place pack e = all_passed (tests place pack) (none_holds (tests place pack) e)
 
 in_range : (place : ℕ) (pack : List ℕ) → is_pack pack ≡ true → place < block_count pack → answer_of place pack ≡ Done
 unfolding tests looks_at
@@ -34,8 +34,8 @@ is_pack_lem pack h =
     let inner = both (eqb (length pack % 512) 0) (leb 1 (block_count pack)) outer.0 in
     (eqb-true _ 0 inner.0, leb-true 1 _ inner.1, leb-true _ 128 outer.1)
 
-pub whole-blocks : (pack : List ℕ) → is_pack pack ≡ true → 512 * block_count pack ≡ length pack
-whole-blocks pack h = omega (arith, (is_pack_lem pack h).0)
+pub whole_blocks : (pack : List ℕ) → is_pack pack ≡ true → 512 * block_count pack ≡ length pack
+whole_blocks pack h = omega (arith, (is_pack_lem pack h).0)
 
 -- And n whole blocks are a pack of n blocks.
 pub count_of : (n : ℕ) (pack : List ℕ) → length pack ≡ 512 * n → block_count pack ≡ n
@@ -55,9 +55,9 @@ found_within place pack e =
     let below : place < length pack / 512 = leb-false _ _ none.1.0 in
     omega (arith, below)
 
-pub found-limit : (place : ℕ) (pack : List ℕ) → answer_of place pack ≡ Done → place < 128
+pub found_limit : (place : ℕ) (pack : List ℕ) → answer_of place pack ≡ Done → place < 128
 unfolding tests
-found-limit place pack e =
+found_limit place pack e =
     let none = none_holds (tests place pack) (ap number_of e) in
     let below : place < length pack / 512 = leb-false _ _ none.1.0 in
     omega (arith, below, (is_pack_lem pack (not_false (is_pack pack) none.0)).2)
@@ -88,9 +88,9 @@ module _ (place : ℕ) (block pack : List ℕ) (room : 512 * place + 512 ≤ len
   front : length (take (512 * place) pack) ≡ 512 * place
   front = length-take-le (512 * place) pack (omega (arith, room))
 
-  past-front : (n : ℕ) → get_or (with_part place block pack) (512 * place + n) 0 ≡ get_or (block ++ drop (512 * suc place) pack) n 0
+  past_front : (n : ℕ) → get_or (with_part place block pack) (512 * place + n) 0 ≡ get_or (block ++ drop (512 * suc place) pack) n 0
   unfolding with_part
-  past-front n =
+  past_front n =
       ap (λ (k : ℕ). get_or (with_part place block pack) (k + n) 0) (sym front)
       ∙ get_or-append-add (take (512 * place) pack) (block ++ drop (512 * suc place) pack) n 0
 
@@ -105,12 +105,12 @@ module _ (place : ℕ) (block pack : List ℕ) (room : 512 * place + 512 ≤ len
       ∙ get_or-take (512 * place) pack i 0 h
 
   pub with_within : (j : ℕ) → j < 512 → get_or (with_part place block pack) (512 * place + j) 0 ≡ get_or block j 0
-  with_within j h = past-front j ∙ get_or-append block (drop (512 * suc place) pack) 0 j (rw long h)
+  with_within j h = past_front j ∙ get_or-append block (drop (512 * suc place) pack) 0 j (rw long h)
 
   pub with_behind : (k : ℕ) → get_or (with_part place block pack) (512 * suc place + k) 0 ≡ get_or pack (512 * suc place + k) 0
   with_behind k =
       let there : 512 * suc place + k ≡ 512 * place + (length block + k) = omega (arith, long) in
-      ap (λ (n : ℕ). get_or (with_part place block pack) n 0) there ∙ past-front (length block + k)
+      ap (λ (n : ℕ). get_or (with_part place block pack) n 0) there ∙ past_front (length block + k)
       ∙ get_or-append-add block (drop (512 * suc place) pack) k 0 ∙ get_or-drop (512 * suc place) pack k 0
 
   -- The part of that place is the block, and every other part what it was.
@@ -149,7 +149,7 @@ parts-take (suc n) pack =
     rw (parts-take n pack, more) (sym (take-add (512 * n) 512 pack))
 
 pub pack_is_its_parts : (pack : List ℕ) → is_pack pack ≡ true → parts (block_count pack) pack ≡ pack
-pack_is_its_parts pack h = rw (parts-take (block_count pack) pack, whole-blocks pack h) (take-length pack)
+pack_is_its_parts pack h = rw (parts-take (block_count pack) pack, whole_blocks pack h) (take-length pack)
 
 parts_same : (n : ℕ) (pack other : List ℕ) → ((place : ℕ) → place < n → part place pack ≡ part place other) → parts n pack ≡ parts n other
 unfolding parts
@@ -173,8 +173,8 @@ same_parts pack other h e same =
     sym (pack_is_its_parts pack h) ∙ parts_same (block_count pack) pack other each
     ∙ ap (λ (k : ℕ). parts k other) n ∙ pack_is_its_parts other h'
 
-pub places-apart : (p q i j : ℕ) → i < 512 → j < 512 → 512 * p + i ≡ 512 * q + j → (p ≡ q) × (i ≡ j)
-places-apart p q i j hi hj e = (omega (arith, hi, hj, e), omega (arith, hi, hj, e))
+pub places_apart : (p q i j : ℕ) → i < 512 → j < 512 → 512 * p + i ≡ 512 * q + j → (p ≡ q) × (i ≡ j)
+places_apart p q i j hi hj e = (omega (arith, hi, hj, e), omega (arith, hi, hj, e))
 
 -- ---- finding in the pack with another block in a place
 
@@ -196,14 +196,14 @@ module _ (place : ℕ) (block pack : List ℕ) (done : answer_of place pack ≡ 
   same_length : length (with_part place block pack) ≡ length pack
   same_length = with_length place block pack room long
 
-  pub written-answer : (other : ℕ) → answer_of other (with_part place block pack) ≡ answer_of other pack
-  written-answer other = same_answer other (with_part place block pack) pack same_length
+  pub written_answer : (other : ℕ) → answer_of other (with_part place block pack) ≡ answer_of other pack
+  written_answer other = same_answer other (with_part place block pack) pack same_length
 
-  pub written-found : found place (with_part place block pack) ≡ block
-  written-found = rw (written-answer place, done) (part_with place block pack room long)
+  pub written_found : found place (with_part place block pack) ≡ block
+  written_found = rw (written_answer place, done) (part_with place block pack room long)
 
-  pub others-found : (other : ℕ) → (other ≡ place → ⊥) → found other (with_part place block pack) ≡ found other pack
-  others-found other apart =
-      rw (written-answer other)
+  pub others_found : (other : ℕ) → (other ≡ place → ⊥) → found other (with_part place block pack) ≡ found other pack
+  others_found other apart =
+      rw (written_answer other)
       (if_done (number_of (answer_of other pack)) (part other (with_part place block pack)) (part other pack)
-      (λ e. part_with_other place block pack room long other apart (found_within other pack (none-refused other pack e))))
+      (λ e. part_with_other place block pack room long other apart (found_within other pack (none_refused other pack e))))

@@ -14,13 +14,13 @@ use Rattle.text.specs.Part.{split_from, split}
 use Rattle.text.specs.Inner.{before, line_with, kept_with}
 use Rattle.text.specs.declared.part.Kept.{Kept}
 use Rattle.text.specs.declared.part.Kept.TheVariants.{Characters, TooLong}
-use Rattle.text.proofs.Parts.{before_all, before_end, split-before, split_end, bytes-twice, kept_twice}
+use Rattle.text.proofs.Parts.{before_all, before_end, split-before, split_end, bytes_twice, kept_twice}
 use Rattle.line.specs.Line.{answer}
 use Rattle.line.specs.Input.{lines_of, ended_of, answers, answers_so_far, last_answer}
 use Rattle.line.specs.Input.{Run, begin, call}
 use Rattle.line.specs.Inner.{ends_in, used_by, kept_line, kept_of, kept_after, kept_answer, answer_after}
-use Rattle.line.proofs.Requests.{answer-long}
-use Rattle.line.proofs.Written.{written-bytes}
+use Rattle.line.proofs.Requests.{answer_long}
+use Rattle.line.proofs.Written.{written_bytes}
 
 -- ---- a line u, of any length, as it is kept: as if it had been appended all at once, where `first` stood when it began
 
@@ -38,18 +38,18 @@ held_more : {u line : List ℕ} {kept : Kept} (p : List ℕ) → Held u line kep
 held_more {u} p h = record {
   first = h.first;
   room = h.room;
-  characters = rw (h.characters, h.counted) (bytes-twice h.first (Characters 0) u p);
+  characters = rw (h.characters, h.counted) (bytes_twice h.first (Characters 0) u p);
   counted = rw (h.characters, h.counted) (kept_twice h.first (Characters 0) u p);
 }
 
-held-room : {u line : List ℕ} {kept : Kept} → Held u line kept → length line ≡ 8300
+held_room : {u line : List ℕ} {kept : Kept} → Held u line kept → length line ≡ 8300
 unfolding line_with
-held-room {u} h = rw (h.characters, length-overwrite 0 u h.first) h.room
+held_room {u} h = rw (h.characters, length-overwrite 0 u h.first) h.room
 
 -- What is kept answers as the whole line does: a line that has no room is longer than any that is understood.
-held-answer : {u line : List ℕ} {kept : Kept} → Held u line kept → kept_answer line kept ≡ answer u
+held_answer : {u line : List ℕ} {kept : Kept} → Held u line kept → kept_answer line kept ≡ answer u
 unfolding kept_answer line_with kept_with
-held-answer {u} h = rw (h.characters, h.counted) (by (leb (0 + length u) (length h.first)) refl)
+held_answer {u} h = rw (h.characters, h.counted) (by (leb (0 + length u) (length h.first)) refl)
   where
     by : (t : Bool) → leb (0 + length u) (length h.first) ≡ t
         → kept_answer (line_with h.first (Characters 0) u) (cond t (Characters (0 + length u)) TooLong) ≡ answer u
@@ -63,7 +63,7 @@ held-answer {u} h = rw (h.characters, h.counted) (by (leb (0 + length u) (length
         )
     by false e =
         let long : length h.first < 0 + length u = leb-false _ _ e in
-        sym (answer-long u (omega (arith, h.room)))
+        sym (answer_long u (omega (arith, h.room)))
 
 -- ---- the parts of an input: all but the last have ended
 
@@ -113,8 +113,8 @@ step true {input} rest e k =
       parts = λ z.
           rw (used, append_assoc input, append_assoc p, k.parts (p ++ 10 ∷ z), split-before 10 k.under rest (10 ∷ z), split_end 10 whole z)
           (sym (append_assoc k.done (whole ∷ []) (split_from 10 [] z)));
-      told = rw (k.told, held-answer now, answers-append k.done (whole ∷ []), append-nil (answer whole));
-      held = held_none _ (held-room now);
+      told = rw (k.told, held_answer now, answers-append k.done (whole ∷ []), append-nil (answer whole));
+      held = held_none _ (held_room now);
     }
 step false {input} {written} rest e k =
     let p : List ℕ = before 10 rest in
@@ -128,10 +128,10 @@ step false {input} {written} rest e k =
     }
 
 -- One call, as its contract has it.
-one-call : {input written line : List ℕ} {kept : Kept} (rest : List ℕ) → SoFar input written line kept
+one_call : {input written line : List ℕ} {kept : Kept} (rest : List ℕ) → SoFar input written line kept
     → SoFar (input ++ take (used_by rest) rest) (written ++ answer_after line kept rest) (kept_line line kept rest) (kept_after line kept rest)
 unfolding used_by kept_after answer_after
-one-call rest k = step (ends_in rest) rest refl k
+one_call rest k = step (ends_in rest) rest refl k
 
 so_far_as : {input input' written written' line line' : List ℕ} {kept kept' : Kept} → input' ≡ input → written' ≡ written → line' ≡ line → kept' ≡ kept
     → SoFar input written line kept → SoFar input' written' line' kept'
@@ -141,8 +141,8 @@ so_far : {line₀ input written line : List ℕ} {kept : Kept} → length line�
 unfolding flat_map
 so_far {line₀} h begin = record { done = []; under = []; parts = λ z. refl; told = refl; held = held_none line₀ h }
 so_far h (call {input} {written} {rest = rest} r s) =
-    so_far_as (ap (λ (n : ℕ). input ++ take n rest) s.used) (ap (λ (u : List ℕ). written ++ u) (written-bytes s.answered)) s.collected s.keeps
-    (one-call rest (so_far h r))
+    so_far_as (ap (λ (n : ℕ). input ++ take n rest) s.used) (ap (λ (u : List ℕ). written ++ u) (written_bytes s.answered)) s.collected s.keeps
+    (one_call rest (so_far h r))
 
 -- nothing follows
 at_end : {input written line : List ℕ} {kept : Kept} (k : SoFar input written line kept) → split 10 input ≡ k.done ++ k.under ∷ []
@@ -155,11 +155,11 @@ unfolding last_answer
 last_some line zero e = absurd (e refl)
 last_some line (suc n) e = refl
 
-last-answer : (u : List ℕ) {line : List ℕ} {kept : Kept} → Held u line kept → last_answer line kept ≡ flat_map answer (lines_of (u ∷ []))
+last_answer_lem : (u : List ℕ) {line : List ℕ} {kept : Kept} → Held u line kept → last_answer line kept ≡ flat_map answer (lines_of (u ∷ []))
 unfolding flat_map lines_of last_answer kept_with
-last-answer [] h = rw (h.counted, h.room)
-last-answer (x ∷ xs) {line} h =
-    rw (append-nil, ← held-answer h, h.counted) (by (leb (0 + length (x ∷ xs)) (length h.first)))
+last_answer_lem [] h = rw (h.counted, h.room)
+last_answer_lem (x ∷ xs) {line} h =
+    rw (append-nil, ← held_answer h, h.counted) (by (leb (0 + length (x ∷ xs)) (length h.first)))
   where
     by : (t : Bool) → let kept = cond t (Characters (0 + length (x ∷ xs))) TooLong in last_answer line kept ≡ kept_answer line kept
     by true = last_some line (0 + length (x ∷ xs)) (λ e. omega arith)
@@ -171,5 +171,5 @@ unfolding answers_so_far answers
 in_chunks h r =
     let k = so_far h r in (
       rw (at_end k, ended_all k.done k.under) k.told,
-      rw (at_end k, lines_all k.done k.under, answers-append k.done, ← last-answer k.under k.held, ← k.told),
+      rw (at_end k, lines_all k.done k.under, answers-append k.done, ← last_answer_lem k.under k.held, ← k.told),
     )

@@ -15,9 +15,9 @@ use Rattle.text.specs.Part.{split_from, split}
 use Rattle.text.specs.Inner.{before, field_of, decoded_of, decoded_in}
 use Rattle.text.specs.declared.hex.Decoded.{Decoded}
 use Rattle.text.specs.declared.hex.Decoded.TheVariants.{Bytes, Refused}
-use Rattle.text.proofs.Digits.{even_digits, split-digits, hex-unhex, unhex-hex, is_hex-hex, decoded_is, decoded_not, decoded_whole, field_is, field_not}
-use Rattle.strings.proofs.Place.{part-behind}
-use Rattle.text.proofs.Parts.{split-none, split-first}
+use Rattle.text.proofs.Digits.{even_digits, split_digits, hex-unhex, unhex-hex, is_hex-hex, decoded_is, decoded_not, decoded_whole, field_is, field_not}
+use Rattle.strings.proofs.Place.{part_behind}
+use Rattle.text.proofs.Parts.{split_none, split_first}
 use Rattle.line.specs.Line.{Request, Unknown, commanded, requested, request_of, refusal, reply_to, answer}
 
 -- ---- lines that are not understood
@@ -80,8 +80,8 @@ lent f out left a n told e l =
 pub field_refused : (c : List ℕ) (ps : List (List ℕ)) (s out : List ℕ) → length ps ≤ 1 → field_of 32 s out ≡ Refused → length s / 2 ≤ length out
     → requested (c ∷ ps ++ split 32 s) ≡ Unknown
 field_refused c ps s out l e room =
-    ⊎_elim (λ h. ⊎_elim (λ n. absurd (omega arith)) (λ n. rw (split-first 32 [] s h) (not_hex c ps _ (before 32 s) n)) (field_not 32 s out e room))
-    (λ h. rw (split-none 32 [] s h) (few c ps s l)) (follows s)
+    ⊎_elim (λ h. ⊎_elim (λ n. absurd (omega arith)) (λ n. rw (split_first 32 [] s h) (not_hex c ps _ (before 32 s) n)) (field_not 32 s out e room))
+    (λ h. rw (split_none 32 [] s h) (few c ps s l)) (follows s)
 
 -- Its bytes, and what stands behind its space, as both are lent on: their digits are the field again.
 pub field_read : (s out left : List ℕ) (a : Decoded) (n : ℕ) → a ≡ field_of 32 s out → a ≡ Bytes n → left ≡ decoded_in a (before 32 s) out
@@ -90,14 +90,14 @@ field_read s out left a n e told l =
     let f = field_is 32 s out n (sym e ∙ told) in
     let half : n ≡ length (before 32 s) / 2 = omega arith in
     let behind : suc (length (before 32 s)) ≡ 2 * n + 1 = omega arith in
-    rw (lent (before 32 s) out left a n told half l, part-behind (2 * n + 1) s, hex-unhex (before 32 s) f.0, ← behind) (split-first 32 [] s (omega arith))
+    rw (lent (before 32 s) out left a n told half l, part_behind (2 * n + 1) s, hex-unhex (before 32 s) f.0, ← behind) (split_first 32 [] s (omega arith))
 
 -- ---- the message, behind which nothing stands
 
 pub message_refused : (c : List ℕ) (a b s out : List ℕ) → decoded_of s out ≡ Refused → length s / 2 ≤ length out → requested (c ∷ a ∷ b ∷ split 32 s) ≡ Unknown
 message_refused c a b s out e room =
-    ⊎_elim (λ h. rw (split-first 32 [] s h) (many c a b _ _ (parts 32 [] _)))
-    (λ h. rw (split-none 32 [] s h) (not_hex c (a ∷ b ∷ []) [] s (decoded_not s out e room))) (follows s)
+    ⊎_elim (λ h. rw (split_first 32 [] s h) (many c a b _ _ (parts 32 [] _)))
+    (λ h. rw (split_none 32 [] s h) (not_hex c (a ∷ b ∷ []) [] s (decoded_not s out e room))) (follows s)
 
 space : is_digit 32 ≡ false
 unfolding is_digit
@@ -109,7 +109,7 @@ pub message_read : (c : List ℕ) (key tweak s out left : List ℕ) (a : Decoded
 unfolding requested
 message_read c key tweak s out left a n k t e told l =
     let d = decoded_is s out n (sym e ∙ told) in
-    rw (split-digits 32 s space (even_digits s d.0).1, is_hex-hex key k, is_hex-hex tweak t, d.0, unhex-hex key k, unhex-hex tweak t, lent s out left a n told d.1 l) refl
+    rw (split_digits 32 s space (even_digits s d.0).1, is_hex-hex key k, is_hex-hex tweak t, d.0, unhex-hex key k, unhex-hex tweak t, lent s out left a n told d.1 l) refl
 
 -- ---- the whole line
 
@@ -171,9 +171,9 @@ line_fields (c ∷ []) h e = absurd (omega arith)
 line_fields (c ∷ d ∷ rest) h e =
     first c (d ∷ rest) _ (λ z. none (split 32 (d ∷ rest)) ∙ sym (no_command (c ∷ []) (split 32 rest) (λ k t m. rw z refl))) (rw (eq-eqb d 32 e) refl)
 
-pub answer-long : (line : List ℕ) → 8300 < length line → answer line ≡ refusal 9
+pub answer_long : (line : List ℕ) → 8300 < length line → answer line ≡ refusal 9
 unfolding answer request_of reply_to
-answer-long line h = rw (lt-leb (length line) 8300 h) refl
+answer_long line h = rw (lt-leb (length line) 8300 h) refl
 
 pub answer_fields : (line : List ℕ) → length line ≤ 8300 → answer line ≡ reply_to (requested (split 32 line))
 unfolding answer request_of

@@ -21,21 +21,21 @@ use Rattle.hch.proofs.Call.{admitted}
 use Rattle.line.specs.Line.{decimal, refusal, reply, Written}
 
 -- Bytes that were written at the front of `out`, where there is room for all of them.
-pub written-front : {out left : List ℕ} {count : ℕ} (bytes : List ℕ) → count ≡ length bytes → left ≡ overwrite 0 bytes out → length bytes ≤ length out
+pub written_front : {out left : List ℕ} {count : ℕ} (bytes : List ℕ) → count ≡ length bytes → left ≡ overwrite 0 bytes out → length bytes ≤ length out
     → Written bytes count out left
-written-front {out} bytes e l h = record { counted = e; written = l ∙ overwrite_head bytes out h }
+written_front {out} bytes e l h = record { counted = e; written = l ∙ overwrite_head bytes out h }
 
 -- What is written behind bytes at the front stands at the front with them.
-pub front-more : (a b out : List ℕ) {n : ℕ} → n ≡ length a → overwrite n b (overwrite 0 a out) ≡ overwrite 0 (a ++ b) out
-front-more a b out e = rw (e, overwrite-append 0 a b out, zero-add) refl
+pub front_more : (a b out : List ℕ) {n : ℕ} → n ≡ length a → overwrite n b (overwrite 0 a out) ≡ overwrite 0 (a ++ b) out
+front_more a b out e = rw (e, overwrite-append 0 a b out, zero-add) refl
 
 -- What was written stands within what is left.
-pub written-within : {bytes out left : List ℕ} {count : ℕ} → Written bytes count out left → count ≤ length left
-written-within {bytes} {out} w = rw (w.written, w.counted, length-append bytes (drop (length bytes) out)) (omega arith)
+pub written_within : {bytes out left : List ℕ} {count : ℕ} → Written bytes count out left → count ≤ length left
+written_within {bytes} {out} w = rw (w.written, w.counted, length-append bytes (drop (length bytes) out)) (omega arith)
 
 -- They are the first bytes there.
-pub written-bytes : {bytes out left : List ℕ} {count : ℕ} → Written bytes count out left → take count left ≡ bytes
-written-bytes {bytes} {out} w = rw (w.written, w.counted, take_at bytes (drop (length bytes) out))
+pub written_bytes : {bytes out left : List ℕ} {count : ℕ} → Written bytes count out left → take count left ≡ bytes
+written_bytes {bytes} {out} w = rw (w.written, w.counted, take_at bytes (drop (length bytes) out))
 
 -- The digits of bytes that have room are written at the front.
 pub encoded_front : (work out : List ℕ) → 2 * length work ≤ length out → (2 * fitting work out ≡ length (hex work)) × (encoded_in work out ≡ overwrite 0 (hex work) out)
@@ -67,15 +67,15 @@ two_digits n l h =
 pub written_as : {a b out left : List ℕ} {count : ℕ} → a ≡ b → Written a count out left → Written b count out left
 written_as e w = rw e at w
 
-pub reply-done : (n : ℕ) (work : List ℕ) → n ≤ 0 → hex work ++ 10 ∷ [] ≡ reply n work
+pub reply_done : (n : ℕ) (work : List ℕ) → n ≤ 0 → hex work ++ 10 ∷ [] ≡ reply n work
 unfolding reply
-reply-done zero work h = refl
-reply-done (suc n) work h = absurd (not-suc-le-zero h)
+reply_done zero work h = refl
+reply_done (suc n) work h = absurd (not-suc-le-zero h)
 
-pub reply-refused : (n : ℕ) (work : List ℕ) → 0 < n → refusal n ≡ reply n work
+pub reply_refused : (n : ℕ) (work : List ℕ) → 0 < n → refusal n ≡ reply n work
 unfolding reply
-reply-refused zero work h = absurd (not-suc-le-zero h)
-reply-refused (suc n) work h = refl
+reply_refused zero work h = absurd (not-suc-le-zero h)
+reply_refused (suc n) work h = refl
 
 -- What a call left is written where it was done, and is its work then.
 left_or_not : (n : ℕ) (work lent : List ℕ) → reply n (left_by n work lent) ≡ reply n work
@@ -83,9 +83,9 @@ unfolding reply
 left_or_not zero work lent = refl
 left_or_not (suc n) work lent = refl
 
-pub reply-called : (a a' : Answer) (n : ℕ) (left work lent : List ℕ) → a ≡ a' → n ≡ number_of a → left ≡ left_by (number_of a) work lent
+pub reply_called : (a a' : Answer) (n : ℕ) (left work lent : List ℕ) → a ≡ a' → n ≡ number_of a → left ≡ left_by (number_of a) work lent
     → reply n left ≡ reply (number_of a') work
-reply-called a a' n left work lent same e l = rw (l, e, left_or_not (number_of a) work lent, same) refl
+reply_called a a' n left work lent same e l = rw (l, e, left_or_not (number_of a) work lent, same) refl
 
 -- Its number has at most two digits, and only a message of at most 4,096 bytes has number 0.
 pub call_fits : (key tweak message left : List ℕ) (a : Answer) (n : ℕ) → a ≡ answer_of key tweak message → n ≡ number_of a → length left ≡ length message

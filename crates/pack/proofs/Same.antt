@@ -9,17 +9,17 @@ use Rattle.pack.specs.Sealing.{seal}
 use Rattle.pack.specs.Opening.{deciphered_block, tests, answer_of}
 
 module _ {S S' : Scheme} {key key' : List ℕ} (same : Same S key S' key') where
-  pub same-cipher : (t n : ℕ) → TweakableCipher t n (S.encipher key) (S.decipher key) → TweakableCipher t n (S'.encipher key') (S'.decipher key')
-  same-cipher t n cipher = rw (same.enciphers, same.deciphers) at cipher
+  pub same_cipher : (t n : ℕ) → TweakableCipher t n (S.encipher key) (S.decipher key) → TweakableCipher t n (S'.encipher key') (S'.decipher key')
+  same_cipher t n cipher = rw (same.enciphers, same.deciphers) at cipher
 
-  pub same-seal : (payload : List ℕ) (pack place : ℕ) → seal S key payload pack place ≡ seal S' key' payload pack place
+  pub same_seal : (payload : List ℕ) (pack place : ℕ) → seal S key payload pack place ≡ seal S' key' payload pack place
   unfolding seal
-  same-seal payload pack place = ap (λ (f : List ℕ → List ℕ → List ℕ). f (tweak pack place) (plain_block payload pack place)) same.enciphers
+  same_seal payload pack place = ap (λ (f : List ℕ → List ℕ → List ℕ). f (tweak pack place) (plain_block payload pack place)) same.enciphers
 
-  pub same-deciphered : (pack place : ℕ) (C : List ℕ) → deciphered_block S key pack place C ≡ deciphered_block S' key' pack place C
+  pub same_deciphered : (pack place : ℕ) (C : List ℕ) → deciphered_block S key pack place C ≡ deciphered_block S' key' pack place C
   unfolding deciphered_block
-  same-deciphered pack place C = ap (λ (f : List ℕ → List ℕ → List ℕ). f (tweak pack place) C) same.deciphers
+  same_deciphered pack place C = ap (λ (f : List ℕ → List ℕ → List ℕ). f (tweak pack place) C) same.deciphers
 
   pub same_answer : (pack place : ℕ) (C : List ℕ) → answer_of S key pack place C ≡ answer_of S' key' pack place C
   unfolding tests
-  same_answer pack place C = rw (same.takes, same-deciphered pack place C)
+  same_answer pack place C = rw (same.takes, same_deciphered pack place C)

@@ -78,7 +78,7 @@ module _ (S : Scheme) where
   -- What a number means when C was to be opened and B is left.
   pub record Meaning (number : ℕ) (key : List ℕ) (pack place : ℕ) (C B : List ℕ) : Type 0 where
     -- Where C was opened, the payload that is left has at most 496 bytes, it seals to C, and no other block opens to it.
-    pub used-limit : number ≡ 0 → used B ≤ 496
+    pub used_limit : number ≡ 0 → used B ≤ 496
     pub sealed : number ≡ 0 → seal S key (payload_of B) pack place ≡ C
     pub one_block : number ≡ 0 → OneBlock key (payload_of B) pack place C
     -- Where C was not opened, by 8 or 12, no payload seals to it.

@@ -24,7 +24,7 @@ pub record Pack (S : Scheme) (key : List ℕ) : Type 0 where
       let B = plain_block payload pack place in
       (number_of answer ≡ 0) × (values_of answer ≡ length payload ∷ []) × (deciphered_block S key pack place C ≡ B) × (take (length payload) B ≡ payload)
   -- A block that opens to a payload, pack and place is the one that sealing writes.
-  pub only-sealed : (payload : List ℕ) (pack place : ℕ) (C : List ℕ) → OfLength 512 C → opens_to S key payload pack place C ≡ true
+  pub only_sealed : (payload : List ℕ) (pack place : ℕ) (C : List ℕ) → OfLength 512 C → opens_to S key payload pack place C ≡ true
       → C ≡ seal S key payload pack place
   -- Exactly one block opens to each payload, pack and place within the limits, and the count over all blocks is 1.
   pub one_block : (payload : List ℕ) (pack place : ℕ) → WithinLimits payload place → OneBlock S key payload pack place (seal S key payload pack place)

@@ -13,9 +13,9 @@ use lib.Pow.{pow_pos, pow_mono, pow-add, split, shl_lt, shl-shr}
 use Rattle.strings.specs.Xor.{◌⊕◌}
 use Rattle.blocks.specs.Field.{times01}
 use Rattle.polynomials.specs.Inner.{carryless}
-use Rattle.strings.proofs.Xor.{xor_laws, xor_shr, xor_mod, xor_disjoint, xor-zero, by_digits}
+use Rattle.strings.proofs.Xor.{xor_laws, xor_shr, xor_mod, xor_disjoint, xor_zero, by_digits}
 use Rattle.blocks.proofs.Ring.{Additive}
-use Rattle.polynomials.proofs.Carryless.{carryless-add-left, carryless_add_right, carryless_zero_right, carryless_shift_left, carryless_shift_right, carryless-more, carryless-below}
+use Rattle.polynomials.proofs.Carryless.{carryless_add_left, carryless_add_right, carryless_zero_right, carryless_shift_left, carryless_shift_right, carryless_more, carryless_below}
 
 infixl 68 ◌&◌
 -- The digits that both have, as one operator: `simp` would look into the library's.
@@ -40,17 +40,17 @@ and_low : (a m : ℕ) → (a & m) % 2 ≡ a % 2 & m % 2
 unfolding ◌&◌
 and_low a m = bits.and_mod a m 1
 
-digit-add : (d : ℕ) → d < 2 → Additive (λ a. a & d)
-digit-add zero h a b = simp and_zero (sym (xor-zero 0))
-digit-add (suc zero) h a b = simp and_one (xor_mod 1 a b)
-digit-add (suc (suc d)) h a b = absurd (omega arith)
+digit_add : (d : ℕ) → d < 2 → Additive (λ a. a & d)
+digit_add zero h a b = simp and_zero (sym (xor_zero 0))
+digit_add (suc zero) h a b = simp and_one (xor_mod 1 a b)
+digit_add (suc (suc d)) h a b = absurd (omega arith)
 
 mask_add : (m : ℕ) → Additive (λ a. a & m)
 mask_add =
-    bin_ind (λ (m : ℕ). Additive (λ a. a & m)) (digit-add 0 (zero-lt-suc 1))
+    bin_ind (λ (m : ℕ). Additive (λ a. a & m)) (digit_add 0 (zero-lt-suc 1))
     (λ m h a b. by_digits ((a ⊕ b) & m) (a & m ⊕ b & m)
     (simp (and_half, xor_shr 1) (h (a / 2) (b / 2)))
-    (simp (and_low, xor_mod 1) (digit-add (m % 2) (mod-lt m (zero-lt-suc 1)) (a % 2) (b % 2))))
+    (simp (and_low, xor_mod 1) (digit_add (m % 2) (mod-lt m (zero-lt-suc 1)) (a % 2) (b % 2))))
 
 and_parts : (k a b r s : ℕ) → r < 2 ^ k → s < 2 ^ k → (a * 2 ^ k + r) & (b * 2 ^ k + s) ≡ (a & b) * 2 ^ k + r & s
 unfolding ◌&◌
@@ -128,7 +128,7 @@ carryless-digit : (N a b d : ℕ) → 4 ≤ N → d < 2 → carryless N a (b * 1
 unfolding carryless
 carryless-digit N a b d h l =
     let one : d % 2 ≡ d = omega arith in
-    let low : carryless N a d ≡ times01 d a = carryless-more 1 N a d (omega arith) l ∙ rw one (xor-zero (times01 d a)) in
+    let low : carryless N a d ≡ times01 d a = carryless_more 1 N a d (omega arith) l ∙ rw one (xor_zero (times01 d a)) in
     rw (← xor_disjoint 4 b d (omega arith), carryless_add_right N a (b * 16) d, carryless_shift_right (N - 4) N 4 a b (omega arith), low)
 
 module _ (a : ℕ) (ha : (m : ℕ) → Holes 1 m a a) where
@@ -166,9 +166,9 @@ part x i = x & (ones 8 * 2 ^ i)
 abbrev pub cut : ℕ → ℕ → ℕ
 cut z t = z & (ones 16 * 2 ^ t)
 
-four-parts : (x : ℕ) → x < 2 ^ 32 → part x 0 ⊕ part x 1 ⊕ part x 2 ⊕ part x 3 ≡ x
+four_parts : (x : ℕ) → x < 2 ^ 32 → part x 0 ⊕ part x 1 ⊕ part x 2 ⊕ part x 3 ≡ x
 unfolding ones ◌⊕◌
-four-parts x h = simp (and_comm x, ← mask_add x) (and_comm _ _ ∙ and_all 32 x h)
+four_parts x h = simp (and_comm x, ← mask_add x) (and_comm _ _ ∙ and_all 32 x h)
 
 -- e digits further on.
 wrap_holes : (e : ℕ) {k a c : ℕ} → ((m : ℕ) → Holes k m a c) → (m : ℕ) → Holes k m (a * 2 ^ (4 * e)) (c * 2 ^ (4 * e))
@@ -179,9 +179,9 @@ wrap_holes (suc e) {k} {a} {c} h (suc m) = rw (next a, next c) (shift_holes (wra
     next : (x : ℕ) → x * 2 ^ (4 * suc e) ≡ x * 2 ^ (4 * e) * 16
     next x = rw (mul-suc 4 e, pow-add 2 (4 * e) 4) (sym (mul_assoc x (2 ^ (4 * e)) 16))
 
-part-below : (u : ℕ) → u & ones 8 < 2 ^ 29
+part_below : (u : ℕ) → u & ones 8 < 2 ^ 29
 unfolding ◌&◌ ones
-part-below u = lt_of_le_of_lt (bits.and_le_r u (ones 8)) (lit< tt)
+part_below u = lt_of_le_of_lt (bits.and_le_r u (ones 8)) (lit< tt)
 
 module _ (i j e t : ℕ) (place : i + j ≡ 4 * e + t) where
   -- i places and j are e digits and t places.
@@ -199,7 +199,7 @@ module _ (i j e t : ℕ) (place : i + j ≡ 4 * e + t) where
       let holes : Holes 8 16 (a * b * 2 ^ (4 * e)) (c * 2 ^ (4 * e)) =
       wrap_holes e (λ m. product_holes a (λ n. ones_holes 8 n (x / 2 ^ i)) 8 (64 - j) m (y / 2 ^ j) (lit≤ tt) (omega arith)) 16 in
       let below : c < 2 ^ 58 =
-      rw (carryless-more 29 (64 - j) a b (omega arith) (part-below (y / 2 ^ j))) (carryless-below 29 29 a b (part-below (x / 2 ^ i))) in
+      rw (carryless_more 29 (64 - j) a b (omega arith) (part_below (y / 2 ^ j))) (carryless_below 29 29 a b (part_below (x / 2 ^ i))) in
       let masked : a * b * 2 ^ (4 * e) & ones 16 ≡ c * 2 ^ (4 * e) =
       masked_holes holes (lt_of_lt_of_le (shl_lt 58 (4 * e) below) (pow_mono {j = 64} (omega arith))) in
       rw (
@@ -248,5 +248,5 @@ module _ (x y : ℕ) where
   pub rows_product : x < 2 ^ 32 → y < 2 ^ 32 → by_rows ≡ carryless 32 x y
   rows_product hx hy =
       ap₂ ◌⊕◌ (ap₂ ◌⊕◌ (ap₂ ◌⊕◌ (row_cut 0 (lit< tt)) (row_cut 1 (lit< tt))) (row_cut 2 (lit< tt))) (row_cut 3 (lit< tt))
-      ∙ four_rows (carryless 64) (carryless-add-left 64) (carryless_add_right 64) (part x) (part y)
-      ∙ ap₂ (carryless 64) (four-parts x hx) (four-parts y hy) ∙ carryless-more 32 64 x y (lit≤ tt) hy
+      ∙ four_rows (carryless 64) (carryless_add_left 64) (carryless_add_right 64) (part x) (part y)
+      ∙ ap₂ (carryless 64) (four_parts x hx) (four_parts y hy) ∙ carryless_more 32 64 x y (lit≤ tt) hy

@@ -9,28 +9,28 @@ use lib.Pow.{pow-lt, pow_mono, pow-add, high, low, shl-shr, shr_lt}
 use Rattle.strings.specs.Xor.{◌⊕◌}
 use Rattle.blocks.specs.Field.{times_x, product_n, product}
 use Rattle.polynomials.specs.Inner.{carryless, reduction}
-use Rattle.strings.proofs.Xor.{xor_laws, xor_shr, xor_mod, xor-zero, xor_zero_left}
+use Rattle.strings.proofs.Xor.{xor_laws, xor_shr, xor_mod, xor_zero, xor_zero_left}
 use Rattle.blocks.specs.Counter.{φ}
-use Rattle.blocks.proofs.Ring.{Additive, additive_zero, basis, xs, xs-add, xs-one, xs-top, xs-left, prod_add_left, prod_add_right, prod_pow}
-use Rattle.polynomials.proofs.Carryless.{shift_add, carryless_add_right, carryless-more, carryless-below, carryless_pow}
+use Rattle.blocks.proofs.Ring.{Additive, additive_zero, basis, xs, xs_add, xs_one, xs_top, xs_left, prod_add_left, prod_add_right, prod_pow}
+use Rattle.polynomials.proofs.Carryless.{shift_add, carryless_add_right, carryless_more, carryless_below, carryless_pow}
 
 module _ (k p : ℕ) where
-  reduced-add : Additive (reduction k p)
+  reduced_add : Additive (reduction k p)
   unfolding reduction product
-  reduced-add a b = simp (xor_mod k, xor_shr k, prod_add_left k p k p, xor_laws)
+  reduced_add a b = simp (xor_mod k, xor_shr k, prod_add_left k p k p, xor_laws)
 
   -- from two halves
-  pub reduced-halves : (h l : ℕ) → l < 2 ^ k → reduction k p (h * 2 ^ k + l) ≡ l ⊕ product k p h p
+  pub reduced_halves : (h l : ℕ) → l < 2 ^ k → reduction k p (h * 2 ^ k + l) ≡ l ⊕ product k p h p
   unfolding reduction
-  reduced-halves h l hl = ap₂ (λ (x y : ℕ). x ⊕ product k p y p) (low h k hl) (high h k hl)
+  reduced_halves h l hl = ap₂ (λ (x y : ℕ). x ⊕ product k p y p) (low h k hl) (high h k hl)
 
-  product-zero : product k p 0 p ≡ 0
+  product_zero : product k p 0 p ≡ 0
   unfolding product
-  product-zero = additive_zero (λ a. product_n k p k a p) (prod_add_left k p k p)
+  product_zero = additive_zero (λ a. product_n k p k a p) (prod_add_left k p k p)
 
-  reduced-low : (c : ℕ) → c < 2 ^ k → reduction k p c ≡ c
+  reduced_low : (c : ℕ) → c < 2 ^ k → reduction k p c ≡ c
   unfolding reduction
-  reduced-low c h = rw (mod-eq_of_lt h, div-eq_of_lt h, product-zero) (xor-zero c)
+  reduced_low c h = rw (mod-eq_of_lt h, div-eq_of_lt h, product_zero) (xor_zero c)
 
   xs_plus : (m n a : ℕ) → xs k p (m + n) a ≡ xs k p m (xs k p n a)
   unfolding φ
@@ -39,10 +39,10 @@ module _ (k p : ℕ) where
 
   module _ (hk : 0 < k) (hp : p < 2 ^ k) where
     -- the power m + k of x is that of m, times p
-    reduced-high : (m : ℕ) → m < k → reduction k p (2 ^ (m + k)) ≡ xs k p (m + k) 1
+    reduced_high : (m : ℕ) → m < k → reduction k p (2 ^ (m + k)) ≡ xs k p (m + k) 1
     unfolding reduction
-    reduced-high m h =
-        rw (pow-add 2 m k, mul-mod_left (2 ^ m) (2 ^ k), shl-shr (2 ^ m) k, xs-left k p hk hp m h p hp, xs_plus m k 1, xs-top k p hk)
+    reduced_high m h =
+        rw (pow-add 2 m k, mul-mod_left (2 ^ m) (2 ^ k), shl-shr (2 ^ m) k, xs_left k p hk hp m h p hp, xs_plus m k 1, xs_top k p hk)
         (xor_zero_left (xs k p m p))
 
     reduced_pow : (n : ℕ) → n < k + k → reduction k p (2 ^ n) ≡ xs k p n 1
@@ -50,28 +50,28 @@ module _ (k p : ℕ) where
         ⊎_elim
         (λ (l : k - n ≡ 0).
         let e : n - k + k ≡ n = omega arith in
-        subst (λ (m : ℕ). reduction k p (2 ^ m) ≡ xs k p m 1) e (reduced-high (n - k) (omega arith)))
-        (λ (l : 0 < k - n). let h : n < k = omega arith in reduced-low (2 ^ n) (pow-lt h) ∙ sym (xs-one k p n h))
+        subst (λ (m : ℕ). reduction k p (2 ^ m) ≡ xs k p m 1) e (reduced_high (n - k) (omega arith)))
+        (λ (l : 0 < k - n). let h : n < k = omega arith in reduced_low (2 ^ n) (pow-lt h) ∙ sym (xs_one k p n h))
         (eq-zero-or-pos (k - n))
 
     reduced_shift : (i : ℕ) → i < k → (a : ℕ) → a < 2 ^ k → reduction k p (a * 2 ^ i) ≡ xs k p i a
     reduced_shift i hi =
         basis k (λ a. reduction k p (a * 2 ^ i)) (xs k p i)
-        (λ a b. rw (shift_add i a b) (reduced-add (a * 2 ^ i) (b * 2 ^ i)))
-        (xs-add k p i)
-        (λ j hj. rw (← pow-add 2 j i, reduced_pow (j + i) (omega arith), ← xs-one k p j hj, ← xs_plus i j 1, add_comm j i))
+        (λ a b. rw (shift_add i a b) (reduced_add (a * 2 ^ i) (b * 2 ^ i)))
+        (xs_add k p i)
+        (λ j hj. rw (← pow-add 2 j i, reduced_pow (j + i) (omega arith), ← xs_one k p j hj, ← xs_plus i j 1, add_comm j i))
 
-    pub product-reduced : (a b : ℕ) → a < 2 ^ k → b < 2 ^ k → product k p a b ≡ reduction k p (carryless k a b)
+    pub product_reduced : (a b : ℕ) → a < 2 ^ k → b < 2 ^ k → product k p a b ≡ reduction k p (carryless k a b)
     unfolding product
-    product-reduced a b ha hb =
+    product_reduced a b ha hb =
         basis k (product k p a) (λ b. reduction k p (carryless k a b)) (prod_add_right k p k a)
-        (λ b c. rw (carryless_add_right k a b c) (reduced-add (carryless k a b) (carryless k a c)))
+        (λ b c. rw (carryless_add_right k a b c) (reduced_add (carryless k a b) (carryless k a c)))
         (λ i h. prod_pow k p k i a h ∙ sym (ap (reduction k p) (carryless_pow k i a h) ∙ reduced_shift i h a ha)) b hb
 
-    pub two-reduced : (a b c d : ℕ) → a < 2 ^ k → b < 2 ^ k → c < 2 ^ k → d < 2 ^ k
+    pub two_reduced : (a b c d : ℕ) → a < 2 ^ k → b < 2 ^ k → c < 2 ^ k → d < 2 ^ k
         → reduction k p (carryless k a b ⊕ carryless k c d) ≡ product k p a b ⊕ product k p c d
-    two-reduced a b c d ha hb hc hd =
-        reduced-add (carryless k a b) (carryless k c d) ∙ sym (ap₂ ◌⊕◌ (product-reduced a b ha hb) (product-reduced c d hc hd))
+    two_reduced a b c d ha hb hc hd =
+        reduced_add (carryless k a b) (carryless k c d) ∙ sym (ap₂ ◌⊕◌ (product_reduced a b ha hb) (product_reduced c d hc hd))
 
     -- A product with p, where p is short: what stands above the k lowest digits of the carry-less one is short too, and its own
     -- product with p has k digits at most.
@@ -80,12 +80,12 @@ module _ (k p : ℕ) where
     unfolding reduction
     folded_twice m h hm l hh =
         let short : (a n : ℕ) → a < 2 ^ n → carryless k a p < 2 ^ (n + m) =
-        λ a n ha. rw (carryless-more m k a p (omega arith) hm) (carryless-below m n a p ha) in
+        λ a n ha. rw (carryless_more m k a p (omega arith) hm) (carryless_below m n a p ha) in
         let over : carryless k h p / 2 ^ k < 2 ^ m = shr_lt m k (rw (add_comm m k) (short h k hh)) in
         let again : product k p (carryless k h p / 2 ^ k) p ≡ carryless k (carryless k h p / 2 ^ k) p % 2 ^ k =
-        product-reduced (carryless k h p / 2 ^ k) p (lt_of_lt_of_le over (pow_mono (omega arith))) hp
-        ∙ rw (div-eq_of_lt (lt_of_lt_of_le (short (carryless k h p / 2 ^ k) m over) (pow_mono l)), product-zero) (xor-zero _) in
-        sym (product-reduced h p hh hp ∙ ap (λ (x : ℕ). carryless k h p % 2 ^ k ⊕ x) again)
+        product_reduced (carryless k h p / 2 ^ k) p (lt_of_lt_of_le over (pow_mono (omega arith))) hp
+        ∙ rw (div-eq_of_lt (lt_of_lt_of_le (short (carryless k h p / 2 ^ k) m over) (pow_mono l)), product_zero) (xor_zero _) in
+        sym (product_reduced h p hh hp ∙ ap (λ (x : ℕ). carryless k h p % 2 ^ k ⊕ x) again)
 
 -- ---- p = 0x87, which is x ^ 7 + x ^ 2 + x + 1
 

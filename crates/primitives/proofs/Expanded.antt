@@ -14,16 +14,16 @@ words_of_key key k =
     (λ (e : eqb (length key) 32 ≡ true). rw (eqb-true (length key) 32 e) (omega arith, omega arith))
     (either (eqb (length key) 16) (eqb (length key) 32) k)
 
-zeros-read : (w : List ℕ) (k i : ℕ) → get_or (w ++ replicate k 0) i 0 ≡ get_or w i 0
-zeros-read [] zero i = refl
-zeros-read [] (suc k) zero = refl
-zeros-read [] (suc k) (suc i) = zeros-read [] k i
-zeros-read (a ∷ w) k zero = refl
-zeros-read (a ∷ w) k (suc i) = zeros-read w k i
+zeros_read : (w : List ℕ) (k i : ℕ) → get_or (w ++ replicate k 0) i 0 ≡ get_or w i 0
+zeros_read [] zero i = refl
+zeros_read [] (suc k) zero = refl
+zeros_read [] (suc k) (suc i) = zeros_read [] k i
+zeros_read (a ∷ w) k zero = refl
+zeros_read (a ∷ w) k (suc i) = zeros_read w k i
 
 round_keys : (w : List ℕ) (k : ℕ) → round_key (w ++ replicate k 0) ≡ round_key w
 unfolding round_key
-round_keys w k = λ i n. state (λ r c. byte_of (zeros-read w k (4 * n + c) i) r)
+round_keys w k = λ i n. state (λ r c. byte_of (zeros_read w k (4 * n + c) i) r)
 
 module _ (Nr : ℕ) (w : List ℕ) (k : ℕ) where
   enciphers : encipher Nr (w ++ replicate k 0) ≡ encipher Nr w

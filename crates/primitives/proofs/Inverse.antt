@@ -19,51 +19,51 @@ raised : ℕ → ℕ → ℕ
 raised zero a = a
 raised (suc n) a = raised n (a • a)
 
-raised-add : (n a b : ℕ) → Byte a → Byte b → raised n (a ⊕ b) ≡ raised n a ⊕ raised n b
+raised_add : (n a b : ℕ) → Byte a → Byte b → raised n (a ⊕ b) ≡ raised n a ⊕ raised n b
 unfolding raised
-raised-add zero a b ha hb = refl
-raised-add (suc n) a b ha hb = rw (square_add a b ha hb) (raised-add n (a • a) (b • b) (below a a ha) (below b b hb))
+raised_add zero a b ha hb = refl
+raised_add (suc n) a b ha hb = rw (square_add a b ha hb) (raised_add n (a • a) (b • b) (below a a ha) (below b b hb))
 
-raised-powers : table (λ i. raised 8 (2 ^ i % 256)) 8 0 ≡ table (λ i. 2 ^ i) 8 0
+raised_powers : table (λ i. raised 8 (2 ^ i % 256)) 8 0 ≡ table (λ i. 2 ^ i) 8 0
 unfolding raised product product_n times_x times01 ◌⊕◌
-raised-powers = refl
+raised_powers = refl
 
 byte : (a : ℕ) → Byte (a % 256)
 byte a = mod-lt a (lit< tt)
 
-raised-eight : (a : ℕ) → Byte a → raised 8 a ≡ a
-raised-eight a h =
+raised_eight : (a : ℕ) → Byte a → raised 8 a ≡ a
+raised_eight a h =
     rw (mod-eq_of_lt h) at
-    (basis 8 (λ b. raised 8 (b % 256)) (λ b. b) (λ b c. rw (xor_mod 8 b c) (raised-add 8 (b % 256) (c % 256) (byte b) (byte c)))
-    (λ b c. refl) (same (λ i. raised 8 (2 ^ i % 256)) (λ i. 2 ^ i) 8 raised-powers) a h)
+    (basis 8 (λ b. raised 8 (b % 256)) (λ b. b) (λ b c. rw (xor_mod 8 b c) (raised_add 8 (b % 256) (c % 256) (byte b) (byte c)))
+    (λ b c. refl) (same (λ i. raised 8 (2 ^ i % 256)) (λ i. 2 ^ i) 8 raised_powers) a h)
 
 -- ---- a ^ 254 times a ^ 2 is a, so whatever a takes to 1 is a ^ 254
 
-squares-below : (n a : ℕ) → Byte a → Byte (squares n a)
+squares_below : (n a : ℕ) → Byte a → Byte (squares n a)
 unfolding squares
-squares-below zero a h = lit< tt
-squares-below (suc n) a h = below (a • a) (squares n (a • a)) (below a a h)
+squares_below zero a h = lit< tt
+squares_below (suc n) a h = below (a • a) (squares n (a • a)) (below a a h)
 
-squares-top : (n a : ℕ) → Byte a → squares n a • (a • a) ≡ raised (suc n) a
+squares_top : (n a : ℕ) → Byte a → squares n a • (a • a) ≡ raised (suc n) a
 unfolding squares raised
-squares-top zero a h = one_left (a • a) (below a a h)
-squares-top (suc n) a h =
+squares_top zero a h = one_left (a • a) (below a a h)
+squares_top (suc n) a h =
     let q : ℕ = a • a in
     let hq : Byte q = below a a h in
-    let hs : Byte (squares n q) = squares-below n q hq in
-    rw (comm q (squares n q) hq hs) (assoc (squares n q) q q hs hq hq ∙ squares-top n q hq)
+    let hs : Byte (squares n q) = squares_below n q hq in
+    rw (comm q (squares n q) hq hs) (assoc (squares n q) q q hs hq hq ∙ squares_top n q hq)
 
-pub inverse-below : (a : ℕ) → Byte a → Byte (inverse a)
+pub inverse_below : (a : ℕ) → Byte a → Byte (inverse a)
 unfolding inverse
-inverse-below = squares-below 7
+inverse_below = squares_below 7
 
 pub inverse_of : (a b : ℕ) → Byte a → Byte b → a • b ≡ 1 → inverse a ≡ b
 unfolding inverse
 inverse_of a b ha hb e =
     let x : ℕ = inverse a in
-    let hx : Byte x = inverse-below a ha in
+    let hx : Byte x = inverse_below a ha in
     let back : (y : ℕ) → Byte y → y • a • b ≡ y = λ y hy. assoc y a b hy ha hb ∙ rw e (one_right y hy) in
-    let top : x • (a • a) ≡ a = squares-top 7 a ha ∙ raised-eight a ha in
+    let top : x • (a • a) ≡ a = squares_top 7 a ha ∙ raised_eight a ha in
     cc (back x hx, back (x • a) (below x a hx), assoc x a a hx ha ha, one_left b hb)
 
 -- ---- the inverses
@@ -97,24 +97,24 @@ products : table (λ i. suc i • looked_up (suc i)) 255 0 ≡ table (λ i. 1) 2
 unfolding inverses product product_n times_x times01 ◌⊕◌
 products = refl
 
-product-one : (i : ℕ) → Byte (suc i) → suc i • looked_up (suc i) ≡ 1
-product-one i h = same (λ i. suc i • looked_up (suc i)) (λ i. 1) 255 products i (le_of_suc-le-suc h)
+product_one : (i : ℕ) → Byte (suc i) → suc i • looked_up (suc i) ≡ 1
+product_one i h = same (λ i. suc i • looked_up (suc i)) (λ i. 1) 255 products i (le_of_suc-le-suc h)
 
-pub inverse-zero : inverse 0 ≡ 0
+pub inverse_zero : inverse 0 ≡ 0
 unfolding inverse squares
-inverse-zero = rw (zero_left 0) (zero_left (squares 6 0))
+inverse_zero = rw (zero_left 0) (zero_left (squares 6 0))
 
 pub inverse_is : (a : ℕ) → Byte a → inverse a ≡ looked_up a
 unfolding inverses
-inverse_is zero h = inverse-zero
-inverse_is (suc i) h = inverse_of (suc i) (looked_up (suc i)) h (byte _) (product-one i h)
+inverse_is zero h = inverse_zero
+inverse_is (suc i) h = inverse_of (suc i) (looked_up (suc i)) h (byte _) (product_one i h)
 
 pub inverse-product : (a : ℕ) → 0 < a → Byte a → a • inverse a ≡ 1
 inverse-product zero p h = absurd (not-suc-le-zero p)
-inverse-product (suc i) p h = rw (inverse_is (suc i) h) (product-one i h)
+inverse-product (suc i) p h = rw (inverse_is (suc i) h) (product_one i h)
 
 pub inverse-inverse : (a : ℕ) → Byte a → inverse (inverse a) ≡ a
-inverse-inverse zero h = rw inverse-zero inverse-zero
+inverse-inverse zero h = rw inverse_zero inverse_zero
 inverse-inverse (suc i) h =
-    let hx : Byte (inverse (suc i)) = inverse-below (suc i) h in
+    let hx : Byte (inverse (suc i)) = inverse_below (suc i) h in
     inverse_of (inverse (suc i)) (suc i) hx h (comm (inverse (suc i)) (suc i) hx h ∙ inverse-product (suc i) (zero-lt-suc i) h)

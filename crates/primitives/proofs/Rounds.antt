@@ -5,13 +5,13 @@ use Rattle.strings.specs.Xor.{◌⊕◌}
 use Rattle.strings.specs.Cipher.{Permutation}
 use Rattle.blocks.specs.Blocks.{IsBlock}
 use Rattle.blocks.specs.BlockCipher.{BlockPermutation}
-use Rattle.primitives.specs.Aes.{Byte, State, at, state, s_box, inv_sBox, sub_bytes, inv_sub_bytes, shift_rows, inv_shift_rows, mixed, inv_mixed, mix_columns, inv_mix_columns, add_round_key, rounds, inv_rounds, cipher, inv_cipher, byte_of, round_key, encipher, decipher, Nr, key_expansion, NkOf, aes}
+use Rattle.primitives.specs.Aes.{Byte, State, at, state, s_box, inv_s_box, sub_bytes, inv_sub_bytes, shift_rows, inv_shift_rows, mixed, inv_mixed, mix_columns, inv_mix_columns, add_round_key, rounds, inv_rounds, cipher, inv_cipher, byte_of, round_key, encipher, decipher, Nr, key_expansion, NkOf, aes}
 use Rattle.strings.proofs.Xor.{xor_below, xor_cancel_right}
 use Rattle.strings.proofs.Bytes.{bytes_below}
 use Rattle.strings.proofs.Table.{table_below, is_table}
 use Rattle.strings.proofs.Permutations.{then, backwards}
 use Rattle.primitives.proofs.OnBlocks.{on_blocks}
-use Rattle.primitives.proofs.Columns.{mixed-below, inv_mixed_below, mixed-undone, inv_mixed_undone}
+use Rattle.primitives.proofs.Columns.{mixed_below, inv_mixed_below, mixed_undone, inv_mixed_undone}
 
 -- ---- states by their entries
 
@@ -30,9 +30,9 @@ each e = λ i. state (λ r c. e r c i)
 abbrev Entries : List ℕ → Type 0
 Entries s = (r c : ℕ) → Byte (at s r c)
 
-pub at-below : (s : List ℕ) → State s → Entries s
+pub at_below : (s : List ℕ) → State s → Entries s
 unfolding at
-at-below s h r c = h.1 (r + 4 * c)
+at_below s h r c = h.1 (r + 4 * c)
 
 -- ---- the steps: F computes each entry, as a byte, and G from those what was there
 
@@ -41,10 +41,10 @@ Undone F G = (s : List ℕ) → Entries s → ((r c : ℕ) → Byte (F s r c)) �
 
 step : {F G : List ℕ → ℕ → ℕ → ℕ} → Undone F G → Undone G F → Permutation State (λ s. state (F s)) (λ s. state (G s))
 step {F} {G} u v = record {
-  keeps = λ s h. state_is (F s) (u s (at-below s h)).0;
-  inverse-keeps = λ s h. state_is (G s) (v s (at-below s h)).0;
-  undone = λ s h. (u s (at-below s h)).1 ∙ state-at h;
-  undoes = λ s h. (v s (at-below s h)).1 ∙ state-at h;
+  keeps = λ s h. state_is (F s) (u s (at_below s h)).0;
+  inverse_keeps = λ s h. state_is (G s) (v s (at_below s h)).0;
+  undone = λ s h. (u s (at_below s h)).1 ∙ state-at h;
+  undoes = λ s h. (v s (at_below s h)).1 ∙ state-at h;
 }
 
 pub shift_rows_lem : Permutation State shift_rows inv_shift_rows
@@ -62,10 +62,10 @@ columns F G k e s h = (
   each (λ r c. e _ _ _ _ (h r c) (h ((r + 1) % 4) c) (h ((r + 2) % 4) c) (h ((r + 3) % 4) c)),
 )
 
-pub mix-columns : Permutation State mix_columns inv_mix_columns
+pub mix_columns_lem : Permutation State mix_columns inv_mix_columns
 unfolding mix_columns inv_mix_columns
-mix-columns =
-    step (columns mixed inv_mixed mixed-below mixed-undone)
+mix_columns_lem =
+    step (columns mixed inv_mixed mixed_below mixed_undone)
     (columns inv_mixed mixed (λ a b c d _ _. inv_mixed_below a b c d) inv_mixed_undone)
 
 -- by bytes
@@ -75,11 +75,11 @@ by_bytes p s h = (λ r c. p.keeps (at s r c) (h r c), each (λ r c. p.undone (at
 
 added : (k : List ℕ) → State k → Undone (λ s r c. at s r c ⊕ at k r c) (λ s r c. at s r c ⊕ at k r c)
 unfolding state at
-added k hk s h = (λ r c. xor_below 8 (h r c) (at-below k hk r c), each (λ r c. xor_cancel_right (at s r c) (at k r c)))
+added k hk s h = (λ r c. xor_below 8 (h r c) (at_below k hk r c), each (λ r c. xor_cancel_right (at s r c) (at k r c)))
 
-pub add-round-key : (k : List ℕ) → State k → Permutation State (add_round_key k) (add_round_key k)
+pub add_round_key_lem : (k : List ℕ) → State k → Permutation State (add_round_key k) (add_round_key k)
 unfolding add_round_key
-add-round-key k h = step (added k h) (added k h)
+add_round_key_lem k h = step (added k h) (added k h)
 
 -- ---- the cipher
 
@@ -87,27 +87,27 @@ pub round_key_is : (w : List ℕ) (i : ℕ) → State (round_key w i)
 unfolding round_key byte_of
 round_key_is w i = state_is (λ r c. byte_of (get_or w (4 * i + c) 0) r) (λ r c. bytes_below 4 (get_or w (4 * i + c) 0) r)
 
-module _ (boxes : Permutation Byte s_box inv_sBox) where
-  pub sub-bytes : Permutation State sub_bytes inv_sub_bytes
+module _ (boxes : Permutation Byte s_box inv_s_box) where
+  pub sub_bytes_lem : Permutation State sub_bytes inv_sub_bytes
   unfolding sub_bytes inv_sub_bytes
-  sub-bytes = step (by_bytes boxes) (by_bytes (backwards boxes))
+  sub_bytes_lem = step (by_bytes boxes) (by_bytes (backwards boxes))
 
   module _ (roundKeys : ℕ → List ℕ) (states : (i : ℕ) → State (roundKeys i)) where
     -- n rounds, and the next one up to its mixing
-    rounds-permutation : (n : ℕ) → Permutation State (λ s. shift_rows (sub_bytes (rounds roundKeys n s))) (inv_rounds roundKeys n)
+    rounds_permutation : (n : ℕ) → Permutation State (λ s. shift_rows (sub_bytes (rounds roundKeys n s))) (inv_rounds roundKeys n)
     unfolding rounds inv_rounds
-    rounds-permutation zero = then (add-round-key (roundKeys 0) (states 0)) (then sub-bytes shift_rows_lem)
-    rounds-permutation (suc n) =
-        then (rounds-permutation n) (then mix-columns (then (add-round-key (roundKeys (suc n)) (states (suc n))) (then sub-bytes shift_rows_lem)))
+    rounds_permutation zero = then (add_round_key_lem (roundKeys 0) (states 0)) (then sub_bytes_lem shift_rows_lem)
+    rounds_permutation (suc n) =
+        then (rounds_permutation n) (then mix_columns_lem (then (add_round_key_lem (roundKeys (suc n)) (states (suc n))) (then sub_bytes_lem shift_rows_lem)))
 
-    pub cipher-permutation : (Nr : ℕ) → Permutation State (cipher roundKeys Nr) (inv_cipher roundKeys Nr)
+    pub cipher_permutation : (Nr : ℕ) → Permutation State (cipher roundKeys Nr) (inv_cipher roundKeys Nr)
     unfolding cipher inv_cipher
-    cipher-permutation Nr = then (rounds-permutation (Nr - 1)) (add-round-key (roundKeys Nr) (states Nr))
+    cipher_permutation Nr = then (rounds_permutation (Nr - 1)) (add_round_key_lem (roundKeys Nr) (states Nr))
 
-  pub block-permutation : (Nr : ℕ) (w : List ℕ) → Permutation IsBlock (encipher Nr w) (decipher Nr w)
+  pub block_permutation : (Nr : ℕ) (w : List ℕ) → Permutation IsBlock (encipher Nr w) (decipher Nr w)
   unfolding encipher decipher
-  block-permutation Nr w = on_blocks (cipher-permutation (round_key w) (round_key_is w) Nr)
+  block_permutation Nr w = on_blocks (cipher_permutation (round_key w) (round_key_is w) Nr)
 
-  pub aes-permutation : (key : List ℕ) → BlockPermutation (aes key)
+  pub aes_permutation : (key : List ℕ) → BlockPermutation (aes key)
   unfolding aes
-  aes-permutation key = block-permutation (Nr (NkOf key)) (key_expansion (NkOf key) key)
+  aes_permutation key = block_permutation (Nr (NkOf key)) (key_expansion (NkOf key) key)

@@ -6,13 +6,13 @@ use lib.Arith.{digits_lt}
 use Rattle.strings.specs.Xor.{◌⊕◌}
 use Rattle.strings.specs.Bytes.{number}
 use Rattle.strings.specs.Cipher.{Permutation}
-use Rattle.primitives.specs.Aes.{Byte, ◌•◌, bit, of_bits, affine, inv_affine, inverse, s_box, inv_sBox}
+use Rattle.primitives.specs.Aes.{Byte, ◌•◌, bit, of_bits, affine, inv_affine, inverse, s_box, inv_s_box}
 use Rattle.primitives.specs.Inner.{Table, MixingTable}
-use Rattle.strings.proofs.Xor.{xor_laws, xor_assoc, xor_shr, xor_mod, xor-parts, xor_below, xor_disjoint}
+use Rattle.strings.proofs.Xor.{xor_laws, xor_assoc, xor_shr, xor_mod, xor_parts, xor_below, xor_disjoint}
 use Rattle.blocks.proofs.Ring.{basis, ring_of_bytes}
 use Rattle.primitives.proofs.Words.{word_bytes}
 use Rattle.strings.proofs.Table.{table, entry, same}
-use Rattle.primitives.proofs.Inverse.{looked_up, inverse_is, inverse-below, inverse-inverse}
+use Rattle.primitives.proofs.Inverse.{looked_up, inverse_is, inverse_below, inverse-inverse}
 open ring_of_bytes use {below}
 
 infixl 65 ◌⊞◌
@@ -42,16 +42,16 @@ whole d D (suc n) =
     let rest : Map n (λ b. of_bits n (d b)) = whole d D n in
     record {
       below = λ b. rw pow-succ' (digits_lt ((D n).below b) (rest.below b));
-      add = λ a b. rw ((D n).add a b, rest.add a b) (simp (xor-parts n, rest.below, xor_below n));
+      add = λ a b. rw ((D n).add a b, rest.add a b) (simp (xor_parts n, rest.below, xor_below n));
     }
 
-affine-map : Map 8 affine
+affine_map : Map 8 affine
 unfolding affine
-affine-map = whole _ (λ i. digit i ⊞ digit (i + 4) ⊞ digit (i + 5) ⊞ digit (i + 6) ⊞ digit (i + 7) ⊞ constant 0x63 i) 8
+affine_map = whole _ (λ i. digit i ⊞ digit (i + 4) ⊞ digit (i + 5) ⊞ digit (i + 6) ⊞ digit (i + 7) ⊞ constant 0x63 i) 8
 
-inv_affine-map : Map 8 inv_affine
+inv_affine_map : Map 8 inv_affine
 unfolding inv_affine
-inv_affine-map = whole _ (λ i. digit (i + 2) ⊞ digit (i + 5) ⊞ digit (i + 7) ⊞ constant 0x05 i) 8
+inv_affine_map = whole _ (λ i. digit (i + 2) ⊞ digit (i + 5) ⊞ digit (i + 7) ⊞ constant 0x05 i) 8
 
 -- Two of them undo each other if they do at 0 and at the powers of two.
 undo : {f g : ℕ → ℕ} → Map 8 f → Map 8 g → f (g 0) ≡ 0 → table (λ i. f (g (2 ^ i))) 8 0 ≡ table (λ i. 2 ^ i) 8 0
@@ -63,25 +63,25 @@ undo {f} {g} F G z e =
 
 affine-inv_affine : (b : ℕ) → Byte b → affine (inv_affine b) ≡ b
 unfolding affine inv_affine of_bits bit ◌⊕◌
-affine-inv_affine = undo affine-map inv_affine-map refl refl
+affine-inv_affine = undo affine_map inv_affine_map refl refl
 
 inv_affine-affine : (b : ℕ) → Byte b → inv_affine (affine b) ≡ b
 unfolding affine inv_affine of_bits bit ◌⊕◌
-inv_affine-affine = undo inv_affine-map affine-map refl refl
+inv_affine-affine = undo inv_affine_map affine_map refl refl
 
-affine-below : (b : ℕ) → Byte (affine b)
-affine-below = affine-map.below
+affine_below : (b : ℕ) → Byte (affine b)
+affine_below = affine_map.below
 
-inv_affine-below : (b : ℕ) → Byte (inv_affine b)
-inv_affine-below = inv_affine-map.below
+inv_affine_below : (b : ℕ) → Byte (inv_affine b)
+inv_affine_below = inv_affine_map.below
 
-pub sbox_permutation : Permutation Byte s_box inv_sBox
-unfolding s_box inv_sBox
+pub sbox_permutation : Permutation Byte s_box inv_s_box
+unfolding s_box inv_s_box
 sbox_permutation = record {
-  keeps = λ b h. affine-below (inverse b);
-  inverse-keeps = λ b h. inverse-below (inv_affine b) (inv_affine-below b);
-  undone = λ b h. rw (inv_affine-affine (inverse b) (inverse-below b h)) (inverse-inverse b h);
-  undoes = λ b h. rw (inverse-inverse (inv_affine b) (inv_affine-below b)) (affine-inv_affine b h);
+  keeps = λ b h. affine_below (inverse b);
+  inverse_keeps = λ b h. inverse_below (inv_affine b) (inv_affine_below b);
+  undone = λ b h. rw (inv_affine-affine (inverse b) (inverse_below b h)) (inverse-inverse b h);
+  undoes = λ b h. rw (inverse-inverse (inv_affine b) (inv_affine_below b)) (affine-inv_affine b h);
 }
 
 -- ---- tables: such a map at a byte is a sum of what it gives at the byte's two hexadecimal digits, which is computed once for each digit
@@ -113,22 +113,22 @@ value g {f} e F s i l k =
 -- what g makes of the S-box's entries
 of_sbox : (g : ℕ → ℕ) {t : List ℕ} → t ≡ values g affine looked_up → (b : ℕ) → Byte b → get_or t b 0 ≡ g (s_box b)
 unfolding s_box
-of_sbox g s b h = value g looked_up affine-map s b h (rw (inverse_is b h) at (inverse-below b h)) ∙ ap (λ (i : ℕ). g (affine i)) (sym (inverse_is b h))
+of_sbox g s b h = value g looked_up affine_map s b h (rw (inverse_is b h) at (inverse_below b h)) ∙ ap (λ (i : ℕ). g (affine i)) (sym (inverse_is b h))
 
 pub sbox_table : {t : List ℕ} → t ≡ values (λ b. b) affine looked_up → Table s_box t
 sbox_table s = record { entry = of_sbox (λ b. b) s }
 
-pub inv_sbox_table : {t : List ℕ} → t ≡ values looked_up inv_affine (λ b. b) → Table inv_sBox t
-unfolding inv_sBox
+pub inv_sbox_table : {t : List ℕ} → t ≡ values looked_up inv_affine (λ b. b) → Table inv_s_box t
+unfolding inv_s_box
 inv_sbox_table s = record {
-  entry = λ b h. value looked_up (λ c. c) inv_affine-map s b h h ∙ sym (inverse_is (inv_affine b) (inv_affine-below b));
+  entry = λ b h. value looked_up (λ c. c) inv_affine_map s b h h ∙ sym (inverse_is (inv_affine b) (inv_affine_below b));
 }
 
 -- ---- the tables of the two mixings
 
 sbox_byte : (b : ℕ) → Byte (s_box b)
 unfolding s_box
-sbox_byte b = affine-below (inverse b)
+sbox_byte b = affine_below (inverse b)
 
 -- the column that a byte s of row 0 adds, if it is the S-box's
 unfoldable pub mixed-word : ℕ → ℕ

@@ -2,25 +2,25 @@
 -- Assumes nothing.
 use Rattle.primitives.specs.Expanded.{rounds_done}
 use Rattle.primitives.specs.Theorems.{Theorems}
-use Rattle.polynomials.proofs.Modulo.{product-reduced}
-use Rattle.primitives.proofs.Inverse.{inverse-zero, inverse-product}
+use Rattle.polynomials.proofs.Modulo.{product_reduced}
+use Rattle.primitives.proofs.Inverse.{inverse_zero, inverse-product}
 use Rattle.primitives.proofs.Substitution.{sbox_permutation}
 use Rattle.primitives.proofs.Rounds as Rounds
 use Rattle.primitives.proofs.Expanded.{expanded_aes}
 
 pub theorems : Theorems
 theorems = record {
-  product-reduced = product-reduced;
+  product_reduced = product_reduced;
   inverse_of_byte = inverse-product;
-  inverse_of_zero = inverse-zero;
+  inverse_of_zero = inverse_zero;
   sbox_permutation = sbox_permutation;
-  sub-bytes = Rounds.sub-bytes sbox_permutation;
+  sub_bytes_lem = Rounds.sub_bytes_lem sbox_permutation;
   shift_rows_lem = Rounds.shift_rows_lem;
-  mix-columns = Rounds.mix-columns;
-  add-round-key = Rounds.add-round-key;
-  cipher-permutation = Rounds.cipher-permutation sbox_permutation;
-  words_permutation = Rounds.block-permutation sbox_permutation;
-  aes-permutation = Rounds.aes-permutation sbox_permutation;
-  under-permutation = λ expanded. Rounds.block-permutation sbox_permutation (rounds_done expanded.rounds) expanded.words;
+  mix_columns_lem = Rounds.mix_columns_lem;
+  add_round_key_lem = Rounds.add_round_key_lem;
+  cipher_permutation = Rounds.cipher_permutation sbox_permutation;
+  words_permutation = Rounds.block_permutation sbox_permutation;
+  aes_permutation = Rounds.aes_permutation sbox_permutation;
+  under_permutation = λ expanded. Rounds.block_permutation sbox_permutation (rounds_done expanded.rounds) expanded.words;
   expanded_aes = expanded_aes;
 }

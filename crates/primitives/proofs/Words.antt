@@ -9,25 +9,25 @@ use Rattle.strings.specs.Bytes.{Bytes, number, bytes}
 use Rattle.blocks.specs.Field.{power}
 use Rattle.primitives.specs.Aes.{◌•◌, word, byte_of, rot_word, sub_word, rcon, choose, temp, own_word, key_word, key_words}
 use Rattle.strings.specs.Inner.{padded}
-use Rattle.strings.proofs.Xor.{xor-zero}
-use Rattle.strings.proofs.Bytes.{length-bytes, bytes_below, bytes-number, bytes-xor}
+use Rattle.strings.proofs.Xor.{xor_zero}
+use Rattle.strings.proofs.Bytes.{length-bytes, bytes_below, bytes-number, bytes_xor}
 use Rattle.strings.proofs.Place.{number_fits}
 
-pub byte_of-below : (w i : ℕ) → byte_of w i < 256
+pub byte_of_below : (w i : ℕ) → byte_of w i < 256
 unfolding byte_of
-byte_of-below w i = bytes_below 4 w i
+byte_of_below w i = bytes_below 4 w i
 
-sum-at : (s t : List ℕ) (i : ℕ) → length s ≡ length t → get_or (xor_bytes s t) i 0 ≡ get_or s i 0 ⊕ get_or t i 0
+sum_at : (s t : List ℕ) (i : ℕ) → length s ≡ length t → get_or (xor_bytes s t) i 0 ≡ get_or s i 0 ⊕ get_or t i 0
 unfolding xor_bytes
-sum-at [] [] i e = sym (xor-zero 0)
-sum-at [] (b ∷ t) i e = absurd (omega arith)
-sum-at (a ∷ s) [] i e = absurd (omega arith)
-sum-at (a ∷ s) (b ∷ t) zero e = refl
-sum-at (a ∷ s) (b ∷ t) (suc i) e = sum-at s t i (omega arith)
+sum_at [] [] i e = sym (xor_zero 0)
+sum_at [] (b ∷ t) i e = absurd (omega arith)
+sum_at (a ∷ s) [] i e = absurd (omega arith)
+sum_at (a ∷ s) (b ∷ t) zero e = refl
+sum_at (a ∷ s) (b ∷ t) (suc i) e = sum_at s t i (omega arith)
 
-pub byte_of-xor : (a b i : ℕ) → byte_of (a ⊕ b) i ≡ byte_of a i ⊕ byte_of b i
+pub byte_of_xor : (a b i : ℕ) → byte_of (a ⊕ b) i ≡ byte_of a i ⊕ byte_of b i
 unfolding byte_of
-byte_of-xor a b i = ap (λ (s : List ℕ). get_or s i 0) (bytes-xor 4 a b) ∙ sum-at (bytes 4 a) (bytes 4 b) i (length-bytes 4 a ∙ sym (length-bytes 4 b))
+byte_of_xor a b i = ap (λ (s : List ℕ). get_or s i 0) (bytes_xor 4 a b) ∙ sum_at (bytes 4 a) (bytes 4 b) i (length-bytes 4 a ∙ sym (length-bytes 4 b))
 
 four : (a b c d : ℕ) → a < 256 → b < 256 → c < 256 → d < 256 → Bytes (a ∷ b ∷ c ∷ d ∷ [])
 four a b c d ha hb hc hd zero = ha
@@ -41,22 +41,22 @@ word_bytes a b c d ha hb hc hd = bytes-number (a ∷ b ∷ c ∷ d ∷ []) (four
 
 pub rot_bytes : (w : ℕ) → bytes 4 (rot_word w) ≡ byte_of w 1 ∷ byte_of w 2 ∷ byte_of w 3 ∷ byte_of w 0 ∷ []
 unfolding rot_word word
-rot_bytes w = word_bytes (byte_of w 1) (byte_of w 2) (byte_of w 3) (byte_of w 0) (byte_of-below w 1) (byte_of-below w 2) (byte_of-below w 3) (byte_of-below w 0)
+rot_bytes w = word_bytes (byte_of w 1) (byte_of w 2) (byte_of w 3) (byte_of w 0) (byte_of_below w 1) (byte_of_below w 2) (byte_of_below w 3) (byte_of_below w 0)
 
 -- The four bytes from place 4 i on are word i of the key itself.
 module _ (i : ℕ) (s : List ℕ) (h : Bytes s) where
   four_fit : number (padded 4 (drop (4 * i) s)) < 256 ^ 4
   four_fit = number_fits 4 4 (4 * i) s h (omega arith)
 
-  four-small : number (padded 4 (drop (4 * i) s)) < 2 ^ 64
-  four-small = lt_of_lt_of_le four_fit (omega arith)
+  four_small : number (padded 4 (drop (4 * i) s)) < 2 ^ 64
+  four_small = lt_of_lt_of_le four_fit (omega arith)
 
   pub read_own : number (padded 4 (drop (4 * i) s)) % 2 ^ 64 ≡ own_word s i
   unfolding own_word word padded
-  read_own = mod-eq_of_lt four-small ∙ simp (get_or-drop, drop-drop, add-zero, add_assoc)
+  read_own = mod-eq_of_lt four_small ∙ simp (get_or-drop, drop-drop, add-zero, add_assoc)
 
   pub read_fits : {r : ℕ} → r ≡ number (padded 4 (drop (4 * i) s)) % 2 ^ 64 → r < 2 ^ 32
-  read_fits e = rw (e, mod-eq_of_lt four-small) four_fit
+  read_fits e = rw (e, mod-eq_of_lt four_small) four_fit
 
 -- x, 2 x, 4 x, .. in the field of bytes, n of them: what the round constants are tested to be.
 unfoldable pub doubles : ℕ → ℕ → List ℕ
@@ -98,8 +98,8 @@ module _ (n Nk : ℕ) (key : List ℕ) (i : ℕ) (words : List ℕ) (held : Held
   read_held : (j : ℕ) → j < i → get_or words j 0 ≡ get_or (key_words Nk key i) j 0
   read_held j l = rw held (get_or-append (key_words Nk key i) (replicate (n - i) 0) 0 j (rw (length-key_words Nk key i) l))
 
-  pub length-held : i ≤ n → length words ≡ n
-  length-held l = rw (held, length-append, length-key_words Nk key i, length-replicate) (omega arith)
+  pub length_held : i ≤ n → length words ≡ n
+  length_held l = rw (held, length-append, length-key_words Nk key i, length-replicate) (omega arith)
 
   module _ (v : ℕ) (fits : i < n) where
     put : v ≡ key_word Nk key i (key_words Nk key i) → Held n Nk key (i + 1) (set words i v)

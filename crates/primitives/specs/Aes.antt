@@ -158,11 +158,11 @@ inv_shift_rows s = state (λ r c. at s r ((c + (4 - r)) % 4))
 unfoldable pub inv_affine : ℕ → ℕ
 inv_affine b = of_bits 8 (λ i. bit b (i + 2) ⊕ bit b (i + 5) ⊕ bit b (i + 7) ⊕ bit 0x05 i)
 
-unfoldable pub inv_sBox : ℕ → ℕ
-inv_sBox b = inverse (inv_affine b)
+unfoldable pub inv_s_box : ℕ → ℕ
+inv_s_box b = inverse (inv_affine b)
 
 unfoldable pub inv_sub_bytes : List ℕ → List ℕ
-inv_sub_bytes s = state (λ r c. inv_sBox (at s r c))
+inv_sub_bytes s = state (λ r c. inv_s_box (at s r c))
 
 -- 5.3.3
 unfoldable pub inv_mixed : ℕ → ℕ → ℕ → ℕ → ℕ

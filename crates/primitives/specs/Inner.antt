@@ -2,7 +2,7 @@
 use Rattle.std.specs.Prelude.{◌≡◌, ℕ, ◌+◌, ◌%◌, ◌<◌, ◌≤◌, List, [], ◌∷◌, slice_index, slice_index_or}
 use Rattle.strings.specs.Xor.{◌⊕◌}
 use Rattle.strings.specs.Bytes.{bytes}
-use Rattle.primitives.specs.Aes.{◌•◌, at, state, byte_of, s_box, inv_sBox, rot_word, Nr}
+use Rattle.primitives.specs.Aes.{◌•◌, at, state, byte_of, s_box, inv_s_box, rot_word, Nr}
 
 -- The list t is the table of f on the bytes.
 pub record Table (f : ℕ → ℕ) (t : List ℕ) : Type 0 where
@@ -35,7 +35,7 @@ CipherTable = MixingTable (λ b. 0x02 • s_box b) (λ b. 0x03 • s_box b) s_bo
 
 -- The lists are the tables of InvCipher: of the inverse S-box, and of InvMixColumns.
 abbrev pub InvCipherTables : List ℕ → List ℕ → Type 0
-InvCipherTables table mixing = Table inv_sBox table × MixingTable (λ b. 0x0e • b) (λ b. 0x0b • b) (λ b. 0x0d • b) (λ b. 0x09 • b) mixing
+InvCipherTables table mixing = Table inv_s_box table × MixingTable (λ b. 0x0e • b) (λ b. 0x0b • b) (λ b. 0x0d • b) (λ b. 0x09 • b) mixing
 
 -- What the table makes of a column: what is added from a lower row stands as many rows lower.
 unfoldable pub column_by : List ℕ → ℕ → ℕ

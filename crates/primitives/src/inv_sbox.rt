@@ -1,7 +1,7 @@
 // The inverse S-box of FIPS 197, 5.3.2, handed out whole: the caller keeps it in a local and lends it, since a constant table that
 // is indexed in place is stored anew at each look-up.
 ghost use Rattle.primitives.specs.Inner.{Table};
-ghost use Rattle.primitives.specs.Aes.{inv_sBox};
+ghost use Rattle.primitives.specs.Aes.{inv_s_box};
 
 use crate::state;
 
@@ -25,7 +25,7 @@ const INV_SBOX: [u8; 256] = [
 ];
 
 pub(crate) fn table() -> state::Table
-    ensures { Table inv_sBox result }
+    ensures { Table inv_s_box result }
 {
     INV_SBOX
 }

@@ -1,7 +1,7 @@
 // The steps of AES's rounds, FIPS 197, 5.1 and 5.3. A state is 16 bytes, of which byte r + 4c stands in row r, column c; between the
 // rounds it is held as its four columns, each a word.
 ghost use Rattle.std.specs.Prelude.{◌≡◌, ◌≤◌, slice_index};
-ghost use Rattle.primitives.specs.Aes.{at, state, inv_sBox, byte_of, shift_rows, add_round_key, inv_shift_rows, rot_word, round, last_round, inv_round, inv_last_round, Nr, round_key};
+ghost use Rattle.primitives.specs.Aes.{at, state, inv_s_box, byte_of, shift_rows, add_round_key, inv_shift_rows, rot_word, round, last_round, inv_round, inv_last_round, Nr, round_key};
 ghost use Rattle.primitives.specs.Inner.{Table, CipherTable, InvCipherTables, Substituted, of_columns, column_by, MixedBy};
 
 use blocks::words;
@@ -133,7 +133,7 @@ pub(crate) fn last_round(table: &Mixing, words: &Words, n: usize, w: Columns) ->
 
 // The last round of the inverse cipher, which has no mixing either.
 pub(crate) fn inv_last_round(table: &Table, words: &Words, n: usize, w: Columns) -> Columns
-    requires { Table inv_sBox table.now × (n ≤ Nr 8) }
+    requires { Table inv_s_box table.now × (n ≤ Nr 8) }
     ensures { of_columns result ≡ inv_last_round (round_key words.now) n (of_columns w) }
 {
     add_round_key(

@@ -10,7 +10,7 @@ use lib.ListN.{get_or}
 use Rattle.strings.specs.Call.{left_by}
 use Rattle.strings.specs.Cipher.{Scheme}
 use Rattle.strings.specs.declared.refusal.Refusal.{Refusal}
-use Rattle.strings.proofs.Refusals.{refusal_range, refusal-leaves}
+use Rattle.strings.proofs.Refusals.{refusal_range, refusal_leaves}
 use Rattle.layout.specs.Finding.{part}
 use Rattle.layout.proofs.Parts.{before_or_from}
 use Rattle.pack.specs.Opening.{number_of as number_of_block, answer_of as answer_of_block}
@@ -23,7 +23,7 @@ use Rattle.runs.specs.declared.opening.RunOpened.TheVariants.{Done, Failed}
 
 -- A block that is refused comes back as it was lent.
 pub left_back : {r : Opened} {why : Refusal} → r ≡ BlockRefused why → (work lent : List ℕ) → left_by (number_of_block r) work lent ≡ lent
-left_back {r} {why} e work lent = rw e (sym (refusal-leaves why work lent))
+left_back {r} {why} e work lent = rw e (sym (refusal_leaves why work lent))
 
 module _ (S : Scheme) (key : List ℕ) (pack first : ℕ) (run : List ℕ) where
   -- Block i is the first of n that will not open, and decides.
@@ -61,13 +61,13 @@ module _ (S : Scheme) (key : List ℕ) (pack first : ℕ) (run : List ℕ) where
       ⊎_elim (λ (all : AllOpen n). one_more n all (answer_of_block S key pack (first + n) (part n run)) refl) (λ (f : FailsAt n). inr (stays n f)) (in_turn_lem n)
 
   -- A block that is refused does not open.
-  refused-shut : {why : Refusal} (i : ℕ) → answer_of_block S key pack (first + i) (part i run) ≡ BlockRefused why → BlockOpens S key pack first run i → ⊥
-  refused-shut {why} i e opens = omega (arith, (refusal_range why).0, sym (ap number_of_block e) ∙ opens)
+  refused_shut : {why : Refusal} (i : ℕ) → answer_of_block S key pack (first + i) (part i run) ≡ BlockRefused why → BlockOpens S key pack first run i → ⊥
+  refused_shut {why} i e opens = omega (arith, (refusal_range why).0, sym (ap number_of_block e) ∙ opens)
 
   -- Where all open, the answer says so, and the other way round.
-  pub all-open : (n : ℕ) → EarlierOpen S key pack first run n → in_turn S key pack first n run ≡ Done
-  all-open n each =
-      ⊎_elim (λ (all : AllOpen n). all.answered) (λ (f : FailsAt n). absurd (refused-shut f.block f.refused (each f.block f.there))) (in_turn_lem n)
+  pub all_open : (n : ℕ) → EarlierOpen S key pack first run n → in_turn S key pack first n run ≡ Done
+  all_open n each =
+      ⊎_elim (λ (all : AllOpen n). all.answered) (λ (f : FailsAt n). absurd (refused_shut f.block f.refused (each f.block f.there))) (in_turn_lem n)
 
   pub each_opens : (n : ℕ) → number_of (in_turn S key pack first n run) ≡ 0 → EarlierOpen S key pack first run n
   each_opens n e =
@@ -78,14 +78,14 @@ module _ (S : Scheme) (key : List ℕ) (pack first : ℕ) (run : List ℕ) where
   pub same_block : (n : ℕ) (f : FailsAt n) (i : ℕ) → (BlockOpens S key pack first run i → ⊥) → EarlierOpen S key pack first run i → f.block ≡ i
   same_block n f i shut before =
       before_or_from i f.block (λ less. absurd (shut (f.before i less)))
-      (λ from. ⊎_elim (λ (e : f.block ≡ i). e) (λ (less : f.block < i). absurd (refused-shut f.block f.refused (before f.block less))) (eq-or-lt_of_le from))
+      (λ from. ⊎_elim (λ (e : f.block ≡ i). e) (λ (less : f.block < i). absurd (refused_shut f.block f.refused (before f.block less))) (eq-or-lt_of_le from))
 
-  pub first-refused : (n i : ℕ) {why : Refusal} → i < n → EarlierOpen S key pack first run i
+  pub first_refused : (n i : ℕ) {why : Refusal} → i < n → EarlierOpen S key pack first run i
       → answer_of_block S key pack (first + i) (part i run) ≡ BlockRefused why → in_turn S key pack first n run ≡ Failed why (first + i)
-  first-refused n i {why} h before e =
-      ⊎_elim (λ (all : AllOpen n). absurd (refused-shut i e (all.each i h)))
+  first_refused n i {why} h before e =
+      ⊎_elim (λ (all : AllOpen n). absurd (refused_shut i e (all.each i h)))
       (λ (f : FailsAt n).
-      let same = same_block n f i (refused-shut i e) before in
+      let same = same_block n f i (refused_shut i e) before in
       let one : BlockRefused f.why ≡ BlockRefused why = sym f.refused ∙ rw same e in
       f.answered ∙ ap (λ (k : ℕ). Failed f.why (first + k)) same ∙ ap (λ (r : Opened). next Done r (first + i)) one) (in_turn_lem n)
 

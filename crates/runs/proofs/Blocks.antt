@@ -51,12 +51,12 @@ get_or-blockwise g run n j h =
     ap (λ (k : ℕ). get_or made k 0) there ∙ sym (get_or-drop j made 0 0) ∙ sym (get_or-take 1 (drop j made) 0 0 (omega arith)) ∙ ap (λ (s : List ℕ). get_or s 0 0) e
 
 -- Two makings that agree on each block agree.
-pub blockwise-same : (f g : ℕ → List ℕ → List ℕ) (n : ℕ) (run other : List ℕ) → ((i : ℕ) → i < n → f i (part i run) ≡ g i (part i other))
+pub blockwise_same : (f g : ℕ → List ℕ → List ℕ) (n : ℕ) (run other : List ℕ) → ((i : ℕ) → i < n → f i (part i run) ≡ g i (part i other))
     → blockwise f n run ≡ blockwise g n other
 unfolding blockwise
-blockwise-same f g zero run other same = refl
-blockwise-same f g (suc n) run other same =
-    rw (blockwise-same f g n run other (λ i h. same i (omega (arith, h))), same n (omega arith))
+blockwise_same f g zero run other same = refl
+blockwise_same f g (suc n) run other same =
+    rw (blockwise_same f g n run other (λ i h. same i (omega (arith, h))), same n (omega arith))
 
 -- The blocks themselves are the run.
 pub blockwise_self : (n : ℕ) (run : List ℕ) → blockwise (λ i B. B) n run ≡ take (512 * n) run
@@ -69,13 +69,13 @@ blockwise_self (suc n) run =
 -- Two strings of n blocks with the same blocks are the same.
 pub same_blocks : (n : ℕ) (run other : List ℕ) → length run ≡ 512 * n → length other ≡ 512 * n → ((i : ℕ) → i < n → part i run ≡ part i other) → run ≡ other
 same_blocks n run other h k same =
-    sym (take_all (512 * n) run (omega (arith, h))) ∙ sym (blockwise_self n run) ∙ blockwise-same (λ i B. B) (λ i B. B) n run other same
+    sym (take_all (512 * n) run (omega (arith, h))) ∙ sym (blockwise_self n run) ∙ blockwise_same (λ i B. B) (λ i B. B) n run other same
     ∙ blockwise_self n other ∙ take_all (512 * n) other (omega (arith, k))
 
 -- A block, as the code has its ends.
-pub lent-part : (i : ℕ) (run : List ℕ) → take (512 * i + 512 - 512 * i) (drop (512 * i) run) ≡ part i run
+pub lent_part : (i : ℕ) (run : List ℕ) → take (512 * i + 512 - 512 * i) (drop (512 * i) run) ≡ part i run
 unfolding part
-lent-part i run =
+lent_part i run =
     let long : 512 * i + 512 - 512 * i ≡ 512 = omega arith in
     rw long
 
@@ -92,31 +92,31 @@ module _ (f : ℕ → List ℕ → List ℕ) (run : List ℕ) where
       let none : drop (512 * n) run ≡ [] = drop_of_length-le run {i = 512 * n} (omega (arith, h)) in
       rw (none, append-nil (blockwise f n run))
 
-  walked-suc : (i : ℕ) → walked f run (suc i) ≡ blockwise f i run ++ (f i (part i run) ++ drop (512 * suc i) run)
+  walked_suc : (i : ℕ) → walked f run (suc i) ≡ blockwise f i run ++ (f i (part i run) ++ drop (512 * suc i) run)
   unfolding walked blockwise
-  walked-suc i = append_assoc (blockwise f i run) (f i (part i run)) (drop (512 * suc i) run)
+  walked_suc i = append_assoc (blockwise f i run) (f i (part i run)) (drop (512 * suc i) run)
 
   module _ (i : ℕ) (sized : (j : ℕ) → j < i → length (f j (part j run)) ≡ 512) where
     -- What is made, and what is left.
-    pub walked-front : take (512 * i) (walked f run i) ≡ blockwise f i run
+    pub walked_front : take (512 * i) (walked f run i) ≡ blockwise f i run
     unfolding walked
-    walked-front = take_at (blockwise f i run) (drop (512 * i) run) (512 * i) (length-blockwise 512 f run i sized)
+    walked_front = take_at (blockwise f i run) (drop (512 * i) run) (512 * i) (length-blockwise 512 f run i sized)
 
-    pub walked-rest : drop (512 * i) (walked f run i) ≡ drop (512 * i) run
+    pub walked_rest : drop (512 * i) (walked f run i) ≡ drop (512 * i) run
     unfolding walked
-    walked-rest = drop_at (blockwise f i run) (drop (512 * i) run) (512 * i) (length-blockwise 512 f run i sized)
+    walked_rest = drop_at (blockwise f i run) (drop (512 * i) run) (512 * i) (length-blockwise 512 f run i sized)
 
     -- The next block, lent by itself, and the whole when it comes back as t.
     pub walked_block : take (512 * i + 512 - 512 * i) (drop (512 * i) (walked f run i)) ≡ part i run
-    walked_block = rw walked-rest (lent-part i run)
+    walked_block = rw walked_rest (lent_part i run)
 
     pub walked_next : {t : List ℕ} → t ≡ f i (part i run)
         → take (512 * i) (walked f run i) ++ (t ++ drop (512 * i + 512 - 512 * i) (drop (512 * i) (walked f run i))) ≡ walked f run (i + 1)
     walked_next {t} e =
         let long : 512 * i + 512 - 512 * i ≡ 512 = omega arith in
         let there : 512 * i + 512 ≡ 512 * suc i = omega arith in
-        let behind : drop 512 (drop (512 * i) (walked f run i)) ≡ drop (512 * suc i) run = rw (walked-rest, drop-drop 512 (512 * i) run, there) in
-        rw (long, walked-front, behind, e, add-one i) (sym (walked-suc i))
+        let behind : drop 512 (drop (512 * i) (walked f run i)) ≡ drop (512 * suc i) run = rw (walked_rest, drop-drop 512 (512 * i) run, there) in
+        rw (long, walked_front, behind, e, add-one i) (sym (walked_suc i))
 
     -- A turn of a loop that makes t of the next block by h, which is f there.
     pub turn : {R t : List ℕ} (h : List ℕ → List ℕ) → R ≡ walked f run i → t ≡ h (take (512 * i + 512 - 512 * i) (drop (512 * i) R)) → h (part i run) ≡ f i (part i run)

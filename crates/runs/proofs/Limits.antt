@@ -13,7 +13,7 @@ use Rattle.strings.specs.declared.refusal.Answer.{Answer}
 use Rattle.strings.specs.declared.refusal.Answer.TheVariants.{Done as NoTestHolds, Refused as FirstIs}
 use Rattle.strings.proofs.Refusals.{refusal_range, none_holds, all_passed, not_false}
 use Rattle.layout.specs.Finding.{block_count, is_pack}
-use Rattle.layout.proofs.Parts.{is_pack_lem, whole-blocks}
+use Rattle.layout.proofs.Parts.{is_pack_lem, whole_blocks}
 use Rattle.runs.specs.Run.{last_place}
 use Rattle.runs.specs.Sealing.{some_over, tests as tests_of_sealing, answer_of as answer_of_sealing}
 use Rattle.runs.specs.Opening.{number_of, after, tests}
@@ -22,9 +22,9 @@ use Rattle.runs.specs.declared.opening.RunOpened.{RunOpened}
 
 -- ---- the number
 
-pub both-done : (a : Answer) (r : RunOpened) → number_of (after a r) ≡ 0 → (number_of_tests a ≡ 0) × (number_of r ≡ 0)
-both-done NoTestHolds r e = (refl, e)
-both-done (FirstIs why) r e = absurd (omega (arith, (refusal_range why).0, e))
+pub both_done : (a : Answer) (r : RunOpened) → number_of (after a r) ≡ 0 → (number_of_tests a ≡ 0) × (number_of r ≡ 0)
+both_done NoTestHolds r e = (refl, e)
+both_done (FirstIs why) r e = absurd (omega (arith, (refusal_range why).0, e))
 
 -- ---- the tests
 
@@ -66,4 +66,4 @@ module _ (S : Scheme) (key : List ℕ) (first : ℕ) (lengths run : List ℕ) wh
       (all_passed _ (refl, (refl, (refl, (refl, tt)))))
 
   pub in_range : Admitted → InRange first run
-  in_range a = record { whole = sym (whole-blocks run a.is_run); places = omega (arith, a.last_place_lem, (is_pack_lem run a.is_run).1) }
+  in_range a = record { whole = sym (whole_blocks run a.is_run); places = omega (arith, a.last_place_lem, (is_pack_lem run a.is_run).1) }

@@ -28,9 +28,9 @@ pub over_from : (limit : ℕ) (s : List ℕ) (i : ℕ) → i < length s
 unfolding some_over
 over_from limit s i h = rw (drop-cons s i 0 h, add-one i)
 
-first-within : (limit u : ℕ) (s : List ℕ) → (t : Bool) → ltb limit u ≡ t → cond t true (some_over limit s) ≡ false → (u ≤ limit) × (some_over limit s ≡ false)
-first-within limit u s true e h = absurd (false≢true (sym h))
-first-within limit u s false e h = (ltb-false limit u e, h)
+first_within : (limit u : ℕ) (s : List ℕ) → (t : Bool) → ltb limit u ≡ t → cond t true (some_over limit s) ≡ false → (u ≤ limit) × (some_over limit s ≡ false)
+first_within limit u s true e h = absurd (false≢true (sym h))
+first_within limit u s false e h = (ltb-false limit u e, h)
 
 one_or : (t : Bool) {r : Bool} → r ≡ true → cond t true r ≡ true
 one_or true e = refl
@@ -39,8 +39,8 @@ one_or false e = e
 pub none_over : (limit : ℕ) (s : List ℕ) → some_over limit s ≡ false → (i : ℕ) → get_or s i 0 ≤ limit
 unfolding some_over
 none_over limit [] h i = omega arith
-none_over limit (u ∷ s) h zero = (first-within limit u s (ltb limit u) refl h).0
-none_over limit (u ∷ s) h (suc i) = none_over limit s (first-within limit u s (ltb limit u) refl h).1 i
+none_over limit (u ∷ s) h zero = (first_within limit u s (ltb limit u) refl h).0
+none_over limit (u ∷ s) h (suc i) = none_over limit s (first_within limit u s (ltb limit u) refl h).1 i
 
 pub over_some : (limit : ℕ) (s : List ℕ) (i : ℕ) → limit < get_or s i 0 → some_over limit s ≡ true
 unfolding some_over

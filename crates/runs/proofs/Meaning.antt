@@ -17,10 +17,10 @@ use Rattle.strings.specs.declared.refusal.Refusal.{Refusal}
 use Rattle.strings.proofs.Refusals.{refusal_range}
 use Rattle.layout.specs.Layout.{used, payload_of}
 use Rattle.layout.specs.Finding.{block_count, part}
-use Rattle.layout.proofs.Parts.{is_pack_lem, whole-blocks}
+use Rattle.layout.proofs.Parts.{is_pack_lem, whole_blocks}
 use Rattle.pack.specs.Sealing.{seal}
 use Rattle.pack.specs.Opening.{number_of as number_of_block, deciphered_block, Unopened as BlockUnopened}
-use Rattle.pack.proofs.OneBlock.{FromPayload, opened-from, unopened as block_unopened}
+use Rattle.pack.proofs.OneBlock.{FromPayload, opened_from, unopened as block_unopened}
 use Rattle.runs.specs.Run.{blockwise}
 use Rattle.runs.specs.Sealing.{some_over, payload_at, sealed_run}
 use Rattle.runs.specs.Opening.{number_of, values_of, deciphered_run, used_lengths, in_turn, tests, answer_of, OneRun, block_number, BlockOpens, NumberAt, FirstNumber, Unopened, UnopenedMeaning, Meaning}
@@ -28,8 +28,8 @@ use Rattle.runs.specs.Theorems.{WithinLimits}
 use Rattle.runs.specs.declared.opening.RunOpened.{RunOpened}
 use Rattle.runs.specs.declared.opening.RunOpened.TheVariants.{Refused}
 use Rattle.runs.proofs.Answers.{FailsAt, AllOpen, in_turn_lem, each_opens, same_block}
-use Rattle.runs.proofs.Blocks.{length-blockwise, blockwise-same, blockwise_self}
-use Rattle.runs.proofs.Limits.{both-done, Admitted, openable, no_test_holds, in_range}
+use Rattle.runs.proofs.Blocks.{length-blockwise, blockwise_same, blockwise_self}
+use Rattle.runs.proofs.Limits.{both_done, Admitted, openable, no_test_holds, in_range}
 use Rattle.runs.proofs.Lists.{some_over_lem}
 use Rattle.runs.proofs.OneRun.{one_run}
 use Rattle.runs.proofs.Sizes.{at, part_of_length, deciphered-part, used-part, deciphered-length}
@@ -41,8 +41,8 @@ module _ (S : Scheme) (key : List ℕ) (cipher : TweakableCipher 16 512 (S.encip
     by_blocks : answer_of S key pack first lengths run ≡ in_turn S key pack first (block_count run) run
     by_blocks = rw (no_test_holds S key first lengths run a)
 
-    number-told : (n : ℕ) → 0 < n → NumberAt (answer_of S key pack first lengths run) n first i → FirstNumber S n key pack first run i
-    number-told n some e =
+    number_told : (n : ℕ) → 0 < n → NumberAt (answer_of S key pack first lengths run) n first i → FirstNumber S n key pack first run i
+    number_told n some e =
         let count = block_count run in
         ⊎_elim (λ (all : AllOpen S key pack first run count). absurd (omega (arith, some, sym (ap number_of (by_blocks ∙ all.answered)) ∙ e.0)))
         (λ (f : FailsAt S key pack first run count).
@@ -53,8 +53,8 @@ module _ (S : Scheme) (key : List ℕ) (cipher : TweakableCipher 16 512 (S.encip
         let refused : block_number S key pack first run i ≡ n = rw same at (ap number_of_block f.refused ∙ number) in
         (refused, rw same at f.before)) (in_turn_lem S key pack first run count)
 
-    number-answered : (n : ℕ) → 0 < n → FirstNumber S n key pack first run i → NumberAt (answer_of S key pack first lengths run) n first i
-    number-answered n some e =
+    number_answered : (n : ℕ) → 0 < n → FirstNumber S n key pack first run i → NumberAt (answer_of S key pack first lengths run) n first i
+    number_answered n some e =
         let count = block_count run in
         let shut : BlockOpens S key pack first run i → ⊥ = λ opens. omega (arith, some, sym e.0 ∙ opens) in
         ⊎_elim (λ (all : AllOpen S key pack first run count). absurd (shut (all.each i h)))
@@ -72,12 +72,12 @@ module _ (S : Scheme) (key : List ℕ) (cipher : TweakableCipher 16 512 (S.encip
     at_block : Unopened S (answer_of S key pack first lengths run) key pack first run i
     at_block =
         let answer = answer_of S key pack first lengths run in
-        let told8 = number-told 8 (omega arith) in
-        let told12 = number-told 12 (omega arith) in
-        let answered8 = number-answered 8 (omega arith) in
-        let answered12 = number-answered 12 (omega arith) in
+        let told8 = number_told 8 (omega arith) in
+        let told12 = number_told 12 (omega arith) in
+        let answered8 = number_answered 8 (omega arith) in
+        let answered12 = number_answered 12 (omega arith) in
         record {
-          first-number = λ n some. (number-told n some, number-answered n some);
+          first_number = λ n some. (number_told n some, number_answered n some);
           eight_or_twelve = (
             ⊎_elim (λ (e : NumberAt answer 8 first i). (of_block_lem.eight_or_twelve.0 (inl (told8 e).0), (told8 e).1))
                 (λ (e : NumberAt answer 12 first i). (of_block_lem.eight_or_twelve.0 (inr (told12 e).0), (told12 e).1)),
@@ -97,26 +97,26 @@ module _ (S : Scheme) (key : List ℕ) (cipher : TweakableCipher 16 512 (S.encip
   -- ---- a run that was opened
 
   module _ (lengths : List ℕ) (e : number_of (answer_of S key pack first lengths run) ≡ 0) where
-    parts-done : (number_of (in_turn S key pack first (block_count run) run) ≡ 0) × Admitted S key first lengths run
-    parts-done =
-        let d = both-done (looks_at (tests S key first lengths run)) (in_turn S key pack first (block_count run) run) e in
+    parts_done : (number_of (in_turn S key pack first (block_count run) run) ≡ 0) × Admitted S key first lengths run
+    parts_done =
+        let d = both_done (looks_at (tests S key first lengths run)) (in_turn S key pack first (block_count run) run) e in
         (d.1, openable S key first lengths run d.0)
 
     pub known : Admitted S key first lengths run
-    known = parts-done.1
+    known = parts_done.1
 
     pub opens : (i : ℕ) → i < block_count run → BlockOpens S key pack first run i
-    opens = each_opens S key pack first run (block_count run) parts-done.0
+    opens = each_opens S key pack first run (block_count run) parts_done.0
 
     from : (i : ℕ) → i < block_count run
         → FromPayload S key pack (first + i) (at S key cipher pack first (first + i)) (part i run) (deciphered_block S key pack (first + i) (part i run))
-    from i h = opened-from S key pack (first + i) (at S key cipher pack first (first + i)) (part i run) (part_of_length i run b (omega (arith, h))).1 (opens i h)
+    from i h = opened_from S key pack (first + i) (at S key cipher pack first (first + i)) (part i run) (part_of_length i run b (omega (arith, h))).1 (opens i h)
 
-    used-limit : some_over 496 (used_lengths S key pack first run) ≡ false
+    used_limit : some_over 496 (used_lengths S key pack first run) ≡ false
     unfolding used_lengths
-    used-limit =
+    used_limit =
         let size = rw one-mul at (length-blockwise 1 (λ i C. used (deciphered_block S key pack (first + i) C) ∷ []) run (block_count run) (λ i h. refl)) in
-        some_over_lem 496 (used_lengths S key pack first run) (λ i h. let below = rw size at h in rw (used-part S key cipher pack first run b i below) (from i below).used-limit)
+        some_over_lem 496 (used_lengths S key pack first run) (λ i h. let below = rw size at h in rw (used-part S key cipher pack first run b i below) (from i below).used_limit)
 
     -- The payload that is left in block i.
     left_payload : (i : ℕ) → i < block_count run
@@ -128,9 +128,9 @@ module _ (S : Scheme) (key : List ℕ) (cipher : TweakableCipher 16 512 (S.encip
     seals =
         let lengths' = used_lengths S key pack first run in
         let B = deciphered_run S key pack first run in
-        blockwise-same (λ i C. seal S key (payload_at lengths' B i) pack (first + i)) (λ i C. C) (block_count run) B run
+        blockwise_same (λ i C. seal S key (payload_at lengths' B i) pack (first + i)) (λ i C. C) (block_count run) B run
         (λ i h. rw (left_payload i h) (from i h).seals)
-        ∙ blockwise_self (block_count run) run ∙ take_all (512 * block_count run) run (omega (arith, sym (whole-blocks run known.is_run)))
+        ∙ blockwise_self (block_count run) run ∙ take_all (512 * block_count run) run (omega (arith, sym (whole_blocks run known.is_run)))
 
     sealed : sealed_run S key pack first (used_lengths S key pack first run) (deciphered_run S key pack first run) ≡ run
     unfolding sealed_run
@@ -139,7 +139,7 @@ module _ (S : Scheme) (key : List ℕ) (cipher : TweakableCipher 16 512 (S.encip
         let B = deciphered_run S key pack first run in
         let n : block_count B ≡ block_count run = omega (arith, deciphered-length S key cipher pack first run b) in
         rw n
-        (blockwise-same (λ i C. seal S key (take (get_or lengths' i 0) C) pack (first + i)) (λ i C. seal S key (payload_at lengths' B i) pack (first + i)) (block_count run) B B
+        (blockwise_same (λ i C. seal S key (take (get_or lengths' i 0) C) pack (first + i)) (λ i C. seal S key (payload_at lengths' B i) pack (first + i)) (block_count run) B B
         (λ i h. refl) ∙ seals)
 
     one : OneRun S key (block_count run) (payload_at (used_lengths S key pack first run) (deciphered_run S key pack first run)) pack first run
@@ -161,7 +161,7 @@ module _ (S : Scheme) (key : List ℕ) (cipher : TweakableCipher 16 512 (S.encip
       → let answer = answer_of S key pack first lengths run in
       Meaning S answer key pack first lengths run (left_by (number_of answer) (used_lengths S key pack first run) lengths) (left_by (number_of answer) (deciphered_run S key pack first run) run)
   meaning lengths = record {
-    used-limit = λ e. rw e (used-limit lengths e);
+    used_limit = λ e. rw e (used_limit lengths e);
     sealed = λ e. rw e (sealed lengths e);
     one_run = λ e. rw e (one lengths e);
     unopened = unopened lengths;
@@ -174,14 +174,14 @@ module _ (S : Scheme) (key : List ℕ) (cipher : TweakableCipher 16 512 (S.encip
 
 -- A refusal before a block is opened is the answer, and the numbers 1, 10, 11 and 6 do not leave a block's number to be asked for.
 module _ (S : Scheme) (key : List ℕ) (pack first : ℕ) (lengths run : List ℕ) {why : Refusal} (e : looks_at (tests S key first lengths run) ≡ FirstIs why) where
-  pub refused-answer : answer_of S key pack first lengths run ≡ Refused why
-  refused-answer = rw e
+  pub refused_answer : answer_of S key pack first lengths run ≡ Refused why
+  refused_answer = rw e
 
-  pub refused-meaning : Meaning S (Refused why) key pack first lengths run lengths run
-  refused-meaning =
+  pub refused_meaning : Meaning S (Refused why) key pack first lengths run lengths run
+  refused_meaning =
       let some : refusal_number why ≡ 0 → ⊥ = λ z. omega (arith, (refusal_range why).0, z) in
       record {
-        used-limit = λ z. absurd (some z);
+        used_limit = λ z. absurd (some z);
         sealed = λ z. absurd (some z);
         one_run = λ z. absurd (some z);
         unopened = λ k whole list last i h.

@@ -24,13 +24,13 @@ decided {j} {i} false e = inr (eqb-false j i e)
 same_or_not : (j i : ℕ) → (j ≡ i) ⊎ (j ≡ i → ⊥)
 same_or_not j i = decided (eqb j i) refl
 
-times-same : (i : ℕ) (order : List ℕ) → times i (i ∷ order) ≡ suc (times i order)
+times_same : (i : ℕ) (order : List ℕ) → times i (i ∷ order) ≡ suc (times i order)
 unfolding times tally
-times-same i order = rw (eq-eqb i i refl) (omega arith)
+times_same i order = rw (eq-eqb i i refl) (omega arith)
 
-times-other : (j i : ℕ) (order : List ℕ) → (j ≡ i → ⊥) → times j (i ∷ order) ≡ times j order
+times_other : (j i : ℕ) (order : List ℕ) → (j ≡ i → ⊥) → times j (i ∷ order) ≡ times j order
 unfolding times tally
-times-other j i order apart = rw (ne_eqb j i apart) (omega arith)
+times_other j i order apart = rw (ne_eqb j i apart) (omega arith)
 
 tally_most : (t : Bool) → tally t ≤ 1
 unfolding tally
@@ -66,10 +66,10 @@ module _ (call : ℕ → List ℕ → List ℕ) where
 
   module _ (i : ℕ) (order run : List ℕ) (can : Can (i ∷ order) run) where
     not_again : times i order ≡ 0
-    not_again = omega (arith, times-same i order, can.once i)
+    not_again = omega (arith, times_same i order, can.once i)
 
     called : times i (i ∷ order) ≡ 1
-    called = omega (arith, times-same i order, not_again)
+    called = omega (arith, times_same i order, not_again)
 
     block : List ℕ
     block = call i (part i run)
@@ -84,12 +84,12 @@ module _ (call : ℕ → List ℕ → List ℕ) where
     then : Can order (with_part i block run)
     unfolding block
     then = record {
-      once = λ j. ⊎_elim (λ (e : j ≡ i). rw e (omega (arith, not_again))) (λ away. rw (times-other j i order away) at (can.once j)) (same_or_not j i);
+      once = λ j. ⊎_elim (λ (e : j ≡ i). rw e (omega (arith, not_again))) (λ away. rw (times_other j i order away) at (can.once j)) (same_or_not j i);
       there = λ j one.
           let long = with_length i block run (can.there i called) (can.sized i called) in
-          rw long (can.there j (times-other j i order (apart j one) ∙ one));
+          rw long (can.there j (times_other j i order (apart j one) ∙ one));
       sized = λ j one.
-          let here = times-other j i order (apart j one) ∙ one in
+          let here = times_other j i order (apart j one) ∙ one in
           rw (other j (apart j one) (can.there j here)) (can.sized j here);
     }
 
@@ -101,13 +101,13 @@ module _ (call : ℕ → List ℕ → List ℕ) where
           same_length = l.same_length ∙ long;
           stays = λ j room none.
               let away : j ≡ i → ⊥ = λ e. let twice : times j (i ∷ order) ≡ 1 = rw e called in omega (arith, none, twice) in
-              l.stays j (rw long room) (sym (times-other j i order away) ∙ none) ∙ other j away room;
+              l.stays j (rw long room) (sym (times_other j i order away) ∙ none) ∙ other j away room;
           made = λ j room one.
               ⊎_elim
               (λ (e : j ≡ i).
               let here : 512 * i + 512 ≤ length (with_part i block run) = rw long (can.there i called) in
               rw e (l.stays i here not_again ∙ part_with i block run (can.there i called) (can.sized i called)))
-              (λ away. l.made j (rw long room) (sym (times-other j i order away) ∙ one) ∙ ap (call j) (other j away room)) (same_or_not j i);
+              (λ away. l.made j (rw long room) (sym (times_other j i order away) ∙ one) ∙ ap (call j) (other j away room)) (same_or_not j i);
         }
 
   leaves : (order run : List ℕ) → Can order run → Leaves order run (one_by_one call order run)

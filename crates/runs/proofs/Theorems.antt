@@ -12,38 +12,38 @@ use Rattle.strings.specs.Bytes.{Bytes}
 use Rattle.strings.specs.Call.{number_of as number_of_sealing}
 use Rattle.strings.specs.Cipher.{TweakableCipher, Scheme}
 use Rattle.strings.specs.declared.refusal.Answer.TheVariants.{Done as NoTestHolds}
-use Rattle.strings.proofs.Bytes.{below-append, below-take, below-drop}
+use Rattle.strings.proofs.Bytes.{below_append, below_take, below_drop}
 use Rattle.strings.proofs.Refusals.{all_passed}
 use Rattle.layout.specs.Finding.{block_count, part, with_part}
-use Rattle.layout.proofs.Parts.{part_length, with_length, part_with_other, count_of, whole-blocks}
+use Rattle.layout.proofs.Parts.{part_length, with_length, part_with_other, count_of, whole_blocks}
 use Rattle.pack.specs.Sealing.{seal, tests as tests_of_block_sealing, answer_of as answer_of_block_sealing}
 use Rattle.pack.specs.Opening.{number_of as number_of_block, values_of as values_of_block, deciphered_block, answer_of as answer_of_block}
-use Rattle.pack.proofs.OneBlock.{opened-answer}
+use Rattle.pack.proofs.OneBlock.{opened_answer}
 use Rattle.runs.specs.Run.{one_by_one, OrderOf}
 use Rattle.runs.specs.Sealing.{payload_at, sealed_run, answer_of as answer_of_sealing}
 use Rattle.runs.specs.Opening.{number_of, deciphered_run, used_lengths, answer_of, lengths_of, OneRun}
 use Rattle.runs.specs.Theorems.{sealing_call, opening_call, WithinLimits, Holds, laid_out, Runs, Theorems}
-use Rattle.runs.proofs.Blocks.{length-blockwise, part-blockwise, blockwise-same}
+use Rattle.runs.proofs.Blocks.{length-blockwise, part-blockwise, blockwise_same}
 use Rattle.runs.proofs.Limits.{sealable, in_range}
 use Rattle.runs.proofs.Lists.{none_over}
 use Rattle.runs.proofs.Meaning.{known, opens, unopened}
 use Rattle.runs.proofs.OneRun.{get_or-lengths_of, one_run as one_of_payloads}
 use Rattle.runs.proofs.Orders.{in_any_order}
-use Rattle.runs.proofs.Sizes.{sealed-length, deciphered_of_length, deciphered-part, used-part}
+use Rattle.runs.proofs.Sizes.{sealed_length, deciphered_of_length, deciphered-part, used-part}
 
 bytes_with : (i : ℕ) (block run : List ℕ) → Bytes block → Bytes run → Bytes (with_part i block run)
 unfolding with_part
 bytes_with i block run hb hr =
-    below-append (take (512 * i) run) (block ++ drop (512 * suc i) run) (below-take (512 * i) run hr)
-    (below-append block (drop (512 * suc i) run) hb (below-drop (512 * suc i) run hr))
+    below_append (take (512 * i) run) (block ++ drop (512 * suc i) run) (below_take (512 * i) run hr)
+    (below_append block (drop (512 * suc i) run) hb (below_drop (512 * suc i) run hr))
 
 module _ (S : Scheme) (key : List ℕ) (k : S.is_key key ≡ true) (cipher : TweakableCipher 16 512 (S.encipher key) (S.decipher key)) where
   -- ---- as the one-block calls
 
   module _ (first : ℕ) (lengths run : List ℕ) (e : number_of_sealing (answer_of_sealing S key first lengths run) ≡ 0) where
-    seals-block : (i : ℕ) → i < block_count run → answer_of_block_sealing S key (payload_at lengths run i) (first + i) (part i run) ≡ NoTestHolds
+    seals_block : (i : ℕ) → i < block_count run → answer_of_block_sealing S key (payload_at lengths run i) (first + i) (part i run) ≡ NoTestHolds
     unfolding tests_of_block_sealing
-    seals-block i h =
+    seals_block i h =
         let s = sealable S key first lengths run e in
         let payload = payload_at lengths run i in
         let short : length payload ≤ 496 = rw length-take (omega (arith, none_over 496 lengths s.1 i)) in
@@ -51,29 +51,29 @@ module _ (S : Scheme) (key : List ℕ) (k : S.is_key key ≡ true) (cipher : Twe
         rw (s.0.is_key_lem, eq-eqb _ 512 (part_length i run (omega (arith, h))), le-ltb 496 (length payload) short, le-ltb 65535 (first + i) place)
         (all_passed _ (refl, (refl, (refl, (refl, tt)))))
 
-    sealed-one-by-one : (pack : ℕ) → Bytes run → (order : List ℕ) → OrderOf (block_count run) order
+    sealed_one_by_one : (pack : ℕ) → Bytes run → (order : List ℕ) → OrderOf (block_count run) order
         → one_by_one (sealing_call S key pack first lengths) order run ≡ sealed_run S key pack first lengths run
     unfolding sealed_run
-    sealed-one-by-one pack b order each =
+    sealed_one_by_one pack b order each =
         let s = sealable S key first lengths run e in
         let work : (i : ℕ) → i < block_count run → sealing_call S key pack first lengths i (part i run) ≡ seal S key (payload_at lengths run i) pack (first + i) =
-        λ i h. rw (seals-block i h) in
-        in_any_order (sealing_call S key pack first lengths) (block_count run) run order (sym (whole-blocks run s.0.is_run)) each
-        (λ i h. rw (work i h) (sealed-length S key cipher pack first run b i (omega (arith, h)) (get_or lengths i 0) (none_over 496 lengths s.1 i)))
-        ∙ blockwise-same (sealing_call S key pack first lengths) (λ i B. seal S key (take (get_or lengths i 0) B) pack (first + i)) (block_count run) run run work
+        λ i h. rw (seals_block i h) in
+        in_any_order (sealing_call S key pack first lengths) (block_count run) run order (sym (whole_blocks run s.0.is_run)) each
+        (λ i h. rw (work i h) (sealed_length S key cipher pack first run b i (omega (arith, h)) (get_or lengths i 0) (none_over 496 lengths s.1 i)))
+        ∙ blockwise_same (sealing_call S key pack first lengths) (λ i B. seal S key (take (get_or lengths i 0) B) pack (first + i)) (block_count run) run run work
 
   module _ (pack first : ℕ) (lengths run : List ℕ) (b : Bytes run) (e : number_of (answer_of S key pack first lengths run) ≡ 0) where
-    opens-block : (i : ℕ) → i < block_count run → number_of_block (answer_of_block S key pack (first + i) (part i run)) ≡ 0
-    opens-block = opens S key cipher pack first run b lengths e
+    opens_block : (i : ℕ) → i < block_count run → number_of_block (answer_of_block S key pack (first + i) (part i run)) ≡ 0
+    opens_block = opens S key cipher pack first run b lengths e
 
-    opened-one-by-one : (order : List ℕ) → OrderOf (block_count run) order → one_by_one (opening_call S key pack first) order run ≡ deciphered_run S key pack first run
+    opened_one_by_one : (order : List ℕ) → OrderOf (block_count run) order → one_by_one (opening_call S key pack first) order run ≡ deciphered_run S key pack first run
     unfolding deciphered_run
-    opened-one-by-one order each =
+    opened_one_by_one order each =
         let work : (i : ℕ) → i < block_count run → opening_call S key pack first i (part i run) ≡ deciphered_block S key pack (first + i) (part i run) =
-        λ i h. rw (opens-block i h) in
-        in_any_order (opening_call S key pack first) (block_count run) run order (sym (whole-blocks run (known S key cipher pack first run b lengths e).is_run)) each
+        λ i h. rw (opens_block i h) in
+        in_any_order (opening_call S key pack first) (block_count run) run order (sym (whole_blocks run (known S key cipher pack first run b lengths e).is_run)) each
         (λ i h. rw (work i h) (deciphered_of_length S key cipher pack first run b i (omega (arith, h))).0)
-        ∙ blockwise-same (opening_call S key pack first) (λ i C. deciphered_block S key pack (first + i) C) (block_count run) run run work
+        ∙ blockwise_same (opening_call S key pack first) (λ i C. deciphered_block S key pack (first + i) C) (block_count run) run run work
 
   -- ---- a run with another block
 
@@ -101,19 +101,19 @@ module _ (S : Scheme) (key : List ℕ) (k : S.is_key key ≡ true) (cipher : Twe
   one_run n payload pack first w run held =
       rw (
         count_of n run held.run_length,
-        blockwise-same (λ i B. seal S key (take (get_or (lengths_of payload n) i 0) B) pack (first + i)) (λ i B. seal S key (payload i) pack (first + i)) n run run
+        blockwise_same (λ i B. seal S key (take (get_or (lengths_of payload n) i 0) B) pack (first + i)) (λ i B. seal S key (payload i) pack (first + i)) n run run
             (λ i h. rw (get_or-lengths_of payload n i h, held.in_front i h)),
       )
       (one_of_payloads S key cipher k pack first payload n w run)
 
 any_cipher : (S : Scheme) (key : List ℕ) → S.is_key key ≡ true → TweakableCipher 16 512 (S.encipher key) (S.decipher key) → Runs S key
 any_cipher S key k cipher = record {
-  sealed-each = λ first lengths run e i h. ap number_of_sealing (seals-block S key k cipher first lengths run e i h);
-  sealed-one-by-one = λ pack first lengths run b e. sealed-one-by-one S key k cipher first lengths run e pack b;
-  opened-each = λ pack first lengths run b e i h.
-      let opened = opens-block S key k cipher pack first lengths run b e i h in
-      (opened, ap values_of_block (opened-answer S key pack (first + i) (part i run) opened) ∙ ap (λ (u : ℕ). u ∷ []) (sym (used-part S key cipher pack first run b i h)));
-  opened-one-by-one = λ pack first lengths run b e. opened-one-by-one S key k cipher pack first lengths run b e;
+  sealed_each = λ first lengths run e i h. ap number_of_sealing (seals_block S key k cipher first lengths run e i h);
+  sealed_one_by_one = λ pack first lengths run b e. sealed_one_by_one S key k cipher first lengths run e pack b;
+  opened_each = λ pack first lengths run b e i h.
+      let opened = opens_block S key k cipher pack first lengths run b e i h in
+      (opened, ap values_of_block (opened_answer S key pack (first + i) (part i run) opened) ∙ ap (λ (u : ℕ). u ∷ []) (sym (used-part S key cipher pack first run b i h)));
+  opened_one_by_one = λ pack first lengths run b e. opened_one_by_one S key k cipher pack first lengths run b e;
   others_open = λ pack first lengths run b e i block h long hb e' j l apart. rw (e, e') (others_open S key k cipher pack first run b i block h long hb j l apart);
   one_run = one_run S key k cipher;
   unopened = λ pack first lengths run b. unopened S key cipher pack first run b lengths;

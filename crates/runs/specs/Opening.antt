@@ -125,7 +125,7 @@ module _ (S : Scheme) where
   -- 02, "the answer adds the smallest failing place": what an answer with the place of block i means.
   pub record Unopened (answer : RunOpened) (key : List ℕ) (pack first : ℕ) (run : List ℕ) (i : ℕ) : Type 0 where
     -- 02, Point 4, "a run gives the number of its first block that will not open".
-    pub first-number : (n : ℕ) → 0 < n
+    pub first_number : (n : ℕ) → 0 < n
         → (NumberAt answer n first i → FirstNumber n key pack first run i) × (FirstNumber n key pack first run i → NumberAt answer n first i)
     -- So 8 or 12 is answered exactly if block i is the first that no payload seals to.
     pub eight_or_twelve : (NumberAt answer 8 first i ⊎ NumberAt answer 12 first i → FirstToFail key pack first run i)
@@ -143,7 +143,7 @@ module _ (S : Scheme) where
   -- What an answer means when the list and C were lent, and `lengths'` and B are left.
   pub record Meaning (answer : RunOpened) (key : List ℕ) (pack first : ℕ) (lengths C lengths' B : List ℕ) : Type 0 where
     -- Where C was opened, the list has lengths of at most 496 bytes, the payloads that are left seal to C, and no other run opens to them.
-    pub used-limit : number_of answer ≡ 0 → some_over 496 lengths' ≡ false
+    pub used_limit : number_of answer ≡ 0 → some_over 496 lengths' ≡ false
     pub sealed : number_of answer ≡ 0 → sealed_run S key pack first lengths' B ≡ C
     pub one_run : number_of answer ≡ 0 → OneRun key (block_count C) (payload_at lengths' B) pack first C
     -- Where a block would not open, the first such block is told, by its number and its place.

@@ -39,15 +39,15 @@ laid_out n payload = blockwise (λ i B. payload i ++ replicate (512 - length (pa
 -- Of runs, by the scheme S under a key.
 pub record Runs (S : Scheme) (key : List ℕ) : Type 0 where
   -- Where sealing a run is done, each one-block call is, and the run is what they leave, made one by one in any order of the blocks.
-  pub sealed-each : (first : ℕ) (lengths run : List ℕ) → number_of_sealing (answer_of_sealing S key first lengths run) ≡ 0
+  pub sealed_each : (first : ℕ) (lengths run : List ℕ) → number_of_sealing (answer_of_sealing S key first lengths run) ≡ 0
       → (i : ℕ) → i < block_count run → number_of_sealing (answer_of_block_sealing S key (payload_at lengths run i) (first + i) (part i run)) ≡ 0
-  pub sealed-one-by-one : (pack first : ℕ) (lengths run : List ℕ) → Bytes run → number_of_sealing (answer_of_sealing S key first lengths run) ≡ 0
+  pub sealed_one_by_one : (pack first : ℕ) (lengths run : List ℕ) → Bytes run → number_of_sealing (answer_of_sealing S key first lengths run) ≡ 0
       → (order : List ℕ) → OrderOf (block_count run) order → one_by_one (sealing_call S key pack first lengths) order run ≡ sealed_run S key pack first lengths run
   -- Where opening a run is done, each one-block call is and returns the length that stands in the list, and the run is what they leave.
-  pub opened-each : (pack first : ℕ) (lengths run : List ℕ) → Bytes run → number_of (answer_of S key pack first lengths run) ≡ 0 → (i : ℕ) → i < block_count run
+  pub opened_each : (pack first : ℕ) (lengths run : List ℕ) → Bytes run → number_of (answer_of S key pack first lengths run) ≡ 0 → (i : ℕ) → i < block_count run
       → let opened = answer_of_block S key pack (first + i) (part i run) in
       (number_of_block opened ≡ 0) × (values_of_block opened ≡ get_or (used_lengths S key pack first run) i 0 ∷ [])
-  pub opened-one-by-one : (pack first : ℕ) (lengths run : List ℕ) → Bytes run → number_of (answer_of S key pack first lengths run) ≡ 0
+  pub opened_one_by_one : (pack first : ℕ) (lengths run : List ℕ) → Bytes run → number_of (answer_of S key pack first lengths run) ≡ 0
       → (order : List ℕ) → OrderOf (block_count run) order → one_by_one (opening_call S key pack first) order run ≡ deciphered_run S key pack first run
   -- If a run opens, and still opens with another block i, the other blocks open to what they opened to.
   pub others_open : (pack first : ℕ) (lengths run : List ℕ) → Bytes run → number_of (answer_of S key pack first lengths run) ≡ 0

@@ -16,22 +16,22 @@ use Rattle.strings.specs.Inner.{padded}
 use Rattle.strings.proofs.Xor.{xor_cancel_right, xor_shr, xor_mod}
 
 -- Strings whose entries are below n. Past the end an entry is 0, so n is never 0.
-pub below-pos : {n : ℕ} (s : List ℕ) → Below n s → 0 < n
-below-pos s h = rw (get_or-eq_default s 0 (le_refl (length s))) at (h (length s))
+pub below_pos : {n : ℕ} (s : List ℕ) → Below n s → 0 < n
+below_pos s h = rw (get_or-eq_default s 0 (le_refl (length s))) at (h (length s))
 
-pub below-append : {n : ℕ} (s t : List ℕ) → Below n s → Below n t → Below n (s ++ t)
-below-append [] t h k i = k i
-below-append (a ∷ s) t h k zero = h 0
-below-append (a ∷ s) t h k (suc i) = below-append s t (λ j. h (suc j)) k i
+pub below_append : {n : ℕ} (s t : List ℕ) → Below n s → Below n t → Below n (s ++ t)
+below_append [] t h k i = k i
+below_append (a ∷ s) t h k zero = h 0
+below_append (a ∷ s) t h k (suc i) = below_append s t (λ j. h (suc j)) k i
 
-pub below-drop : {n : ℕ} (m : ℕ) (s : List ℕ) → Below n s → Below n (drop m s)
-below-drop m s h i = rw get_or-drop (h (m + i))
+pub below_drop : {n : ℕ} (m : ℕ) (s : List ℕ) → Below n s → Below n (drop m s)
+below_drop m s h i = rw get_or-drop (h (m + i))
 
-pub below-take : {n : ℕ} (m : ℕ) (s : List ℕ) → Below n s → Below n (take m s)
-below-take zero s h i = below-pos s h
-below-take (suc m) [] h i = h i
-below-take (suc m) (a ∷ s) h zero = h 0
-below-take (suc m) (a ∷ s) h (suc i) = below-take m s (λ j. h (suc j)) i
+pub below_take : {n : ℕ} (m : ℕ) (s : List ℕ) → Below n s → Below n (take m s)
+below_take zero s h i = below_pos s h
+below_take (suc m) [] h i = h i
+below_take (suc m) (a ∷ s) h zero = h 0
+below_take (suc m) (a ∷ s) h (suc i) = below_take m s (λ j. h (suc j)) i
 
 -- Numbers and bytes.
 pos : (n : ℕ) → 0 < 256 ^ n
@@ -48,10 +48,10 @@ bytes_below zero a i = omega arith
 bytes_below (suc n) a zero = omega arith
 bytes_below (suc n) a (suc i) = bytes_below n a i
 
-pub number-below : (s : List ℕ) → Bytes s → number s < 256 ^ length s
+pub number_below : (s : List ℕ) → Bytes s → number s < 256 ^ length s
 unfolding number
-number-below [] h = omega arith
-number-below (a ∷ s) h = rw pow-succ' (digits_lt (h 0) (number-below s (λ i. h (suc i))))
+number_below [] h = omega arith
+number_below (a ∷ s) h = rw pow-succ' (digits_lt (h 0) (number_below s (λ i. h (suc i))))
 
 pub number_append : (s t : List ℕ) → number (s ++ t) ≡ number s * 256 ^ length t + number t
 unfolding number
@@ -65,18 +65,18 @@ number-bytes zero a = omega arith
 number-bytes (suc n) a = rw (length-bytes n a, number-bytes n a, pow-succ' 256 n, mod-mul a (pos 1) (pos n))
 
 -- What lies above n bytes is cut.
-pub bytes-above : (n q a : ℕ) → bytes n (q * 256 ^ n + a) ≡ bytes n a
+pub bytes_above : (n q a : ℕ) → bytes n (q * 256 ^ n + a) ≡ bytes n a
 unfolding bytes
-bytes-above zero q a = refl
-bytes-above (suc n) q a =
-    rw (pow-succ', ← mul_assoc, bytes-above n (q * 256) a, mul-add-div_right (pos n), mul-add-mod_self_right)
+bytes_above zero q a = refl
+bytes_above (suc n) q a =
+    rw (pow-succ', ← mul_assoc, bytes_above n (q * 256) a, mul-add-div_right (pos n), mul-add-mod_self_right)
 
 pub bytes-number : (s : List ℕ) → Bytes s → bytes (length s) (number s) ≡ s
 unfolding number bytes
 bytes-number [] h = refl
 bytes-number (a ∷ s) h =
-    let r = number-below s (λ i. h (suc i)) in
-    rw (digits_div a r, mod-eq_of_lt (h 0), bytes-above (length s) a (number s), bytes-number s (λ i. h (suc i)))
+    let r = number_below s (λ i. h (suc i)) in
+    rw (digits_div a r, mod-eq_of_lt (h 0), bytes_above (length s) a (number s), bytes-number s (λ i. h (suc i)))
 
 pub bytes-append : (m n a : ℕ) → bytes (m + n) a ≡ bytes m (a / 256 ^ n) ++ bytes n a
 unfolding bytes
@@ -88,10 +88,10 @@ pub pow_mul : (a k n : ℕ) → (a ^ k) ^ n ≡ a ^ (k * n)
 pow_mul a k zero = rw (pow-zero, mul-zero, pow-zero)
 pow_mul a k (suc n) = rw (pow-suc, pow_mul a k n, mul-suc, pow-add)
 
-pub bytes-xor : (n a b : ℕ) → bytes n (a ⊕ b) ≡ xor_bytes (bytes n a) (bytes n b)
+pub bytes_xor : (n a b : ℕ) → bytes n (a ⊕ b) ≡ xor_bytes (bytes n a) (bytes n b)
 unfolding bytes xor_bytes
-bytes-xor zero a b = refl
-bytes-xor (suc n) a b = rw (bytes-xor n a b, pow_mul 2 8 n, xor_shr (8 * n) a b, xor_mod 8 (a / 2 ^ (8 * n)) (b / 2 ^ (8 * n)))
+bytes_xor zero a b = refl
+bytes_xor (suc n) a b = rw (bytes_xor n a b, pow_mul 2 8 n, xor_shr (8 * n) a b, xor_mod 8 (a / 2 ^ (8 * n)) (b / 2 ^ (8 * n)))
 
 pub length-xor_bytes : (s t : List ℕ) → length (xor_bytes s t) ≡ length s
 unfolding xor_bytes
@@ -131,21 +131,21 @@ unfolding padded
 length-padded zero s = refl
 length-padded (suc n) s = ap suc (length-padded n (drop 1 s))
 
-pub padded-below : {k : ℕ} (n : ℕ) (s : List ℕ) → Below k s → Below k (padded n s)
+pub padded_below : {k : ℕ} (n : ℕ) (s : List ℕ) → Below k s → Below k (padded n s)
 unfolding padded
-padded-below zero s h i = below-pos s h
-padded-below (suc n) s h zero = h 0
-padded-below (suc n) s h (suc i) = padded-below n (drop 1 s) (below-drop 1 s h) i
+padded_below zero s h i = below_pos s h
+padded_below (suc n) s h zero = h 0
+padded_below (suc n) s h (suc i) = padded_below n (drop 1 s) (below_drop 1 s h) i
 
-pub padded-suc : (n : ℕ) (s : List ℕ) → padded (suc n) s ≡ padded n s ++ (get_or s n 0 ∷ [])
+pub padded_suc : (n : ℕ) (s : List ℕ) → padded (suc n) s ≡ padded n s ++ (get_or s n 0 ∷ [])
 unfolding padded
-padded-suc zero s = refl
-padded-suc (suc n) s = rw (padded-suc n (drop 1 s), get_or-drop 1 s n 0, one-add)
+padded_suc zero s = refl
+padded_suc (suc n) s = rw (padded_suc n (drop 1 s), get_or-drop 1 s n 0, one-add)
 
-pub padded-add : (m n : ℕ) (s : List ℕ) → padded (m + n) s ≡ padded m s ++ padded n (drop m s)
+pub padded_add : (m n : ℕ) (s : List ℕ) → padded (m + n) s ≡ padded m s ++ padded n (drop m s)
 unfolding padded
-padded-add zero n s = rw zero-add
-padded-add (suc m) n s = rw (suc-add, padded-add m n (drop 1 s), drop-drop m 1 s, one-add)
+padded_add zero n s = rw zero-add
+padded_add (suc m) n s = rw (suc-add, padded_add m n (drop 1 s), drop-drop m 1 s, one-add)
 
 pub take-padded : (n : ℕ) (s : List ℕ) → length s ≤ n → take (length s) (padded n s) ≡ s
 unfolding padded

@@ -31,8 +31,8 @@ module _ (least : ℕ) (short : Refusal) (tweak message : List ℕ) where
       rw (eq-eqb (length tweak) 16 a.tweak-length, le-ltb (length message) least a.at_least, le-ltb 4096 (length message) a.at_most)
       (all_passed _ (refl, (refl, (refl, tt))))
 
-  pub admitted-behind-key : number_of (looks_at (tests_behind_key least short tweak message)) ≡ 0 → Admitted least tweak message
-  admitted-behind-key e =
+  pub admitted_behind_key : number_of (looks_at (tests_behind_key least short tweak message)) ≡ 0 → Admitted least tweak message
+  admitted_behind_key e =
       let t = none_holds (tests_behind_key least short tweak message) e in
       record {
         tweak-length = eqb-true (length tweak) 16 (not_false _ t.0);
@@ -41,13 +41,13 @@ module _ (least : ℕ) (short : Refusal) (tweak message : List ℕ) where
       }
 
   pub admitted : (S : Scheme) (key : List ℕ) → number_of (looks_at (tests S least short key tweak message)) ≡ 0 → Admitted least tweak message
-  admitted S key e = admitted-behind-key (ap number_of (all_passed (tests_behind_key least short tweak message) (none_holds (tests S least short key tweak message) e).1))
+  admitted S key e = admitted_behind_key (ap number_of (all_passed (tests_behind_key least short tweak message) (none_holds (tests S least short key tweak message) e).1))
 
   -- Where the key is one, the other tests decide; where it is none, it is told.
-  pub behind-key : (S : Scheme) (key : List ℕ) → S.is_key key ≡ true
+  pub behind_key : (S : Scheme) (key : List ℕ) → S.is_key key ≡ true
       → looks_at (tests_behind_key least short tweak message) ≡ looks_at (tests S least short key tweak message)
   unfolding looks_at
-  behind-key S key k = rw k
+  behind_key S key k = rw k
 
   pub no_key : (S : Scheme) (key : List ℕ) → S.is_key key ≡ false → Refused KeyLength ≡ looks_at (tests S least short key tweak message)
   unfolding looks_at
@@ -56,30 +56,30 @@ module _ (least : ℕ) (short : Refusal) (tweak message : List ℕ) where
 -- ---- where the work was done under an expanded key
 
 -- By the tests, the work and the cipher of an admitted length: what the call promises.
-pub done-behind-key : (S : Scheme) (least : ℕ) (short : Refusal) (tweak message work : List ℕ) {answer : Answer} {left : List ℕ}
+pub done_behind_key : (S : Scheme) (least : ℕ) (short : Refusal) (tweak message work : List ℕ) {answer : Answer} {left : List ℕ}
     → answer ≡ looks_at (tests_behind_key least short tweak message) → answer ≡ Done → left ≡ work → Cipher (length message) (S.encipher [] tweak) (S.decipher [] tweak)
     → (answer ≡ looks_at (tests_behind_key least short tweak message))
     × ((left ≡ left_by (number_of answer) work message) × IsCipher S (number_of answer) [] tweak (length message))
-done-behind-key S least short tweak message work e done l cipher = (e, (rw done l, λ z. cipher))
+done_behind_key S least short tweak message work e done l cipher = (e, (rw done l, λ z. cipher))
 
 -- ---- a call under a key, from the call under the expanded key
 
 module _ (least : ℕ) (short : Refusal) (S : Scheme) (key tweak message : List ℕ) where
   module _ {S' : Scheme} (k : S.is_key key ≡ true) (same : Same S' [] S key) {answer : Answer}
       (e : answer ≡ looks_at (tests_behind_key least short tweak message)) (cipher : IsCipher S' (number_of answer) [] tweak (length message)) where
-    cipher-under-key : IsCipher S (number_of answer) key tweak (length message)
-    cipher-under-key = rw (sym same.enciphers, sym same.deciphers) cipher
+    cipher_under_key : IsCipher S (number_of answer) key tweak (length message)
+    cipher_under_key = rw (sym same.enciphers, sym same.deciphers) cipher
 
-    pub enciphered-under-key : {left : List ℕ} → left ≡ left_by (number_of answer) (S'.encipher [] tweak message) message
+    pub enciphered_under_key : {left : List ℕ} → left ≡ left_by (number_of answer) (S'.encipher [] tweak message) message
         → (answer ≡ looks_at (tests S least short key tweak message))
         × ((left ≡ left_by (number_of answer) (S.encipher key tweak message) message) × IsCipher S (number_of answer) key tweak (length message))
-    enciphered-under-key l = (e ∙ behind-key least short tweak message S key k, (rw (sym same.enciphers) l, cipher-under-key))
+    enciphered_under_key l = (e ∙ behind_key least short tweak message S key k, (rw (sym same.enciphers) l, cipher_under_key))
 
     -- What deciphering leaves is the one message that enciphers to what was lent.
-    pub deciphered-under-key : {left : List ℕ} → Bytes message → left ≡ left_by (number_of answer) (S'.decipher [] tweak message) message
+    pub deciphered_under_key : {left : List ℕ} → Bytes message → left ≡ left_by (number_of answer) (S'.decipher [] tweak message) message
         → (answer ≡ looks_at (tests S least short key tweak message))
         × ((left ≡ left_by (number_of answer) (S.decipher key tweak message) message)
         × (IsCipher S (number_of answer) key tweak (length message) × OnePlaintext S (number_of answer) key tweak message left))
-    deciphered-under-key {left} b l =
+    deciphered_under_key {left} b l =
         let work : left ≡ left_by (number_of answer) (S.decipher key tweak message) message = rw (sym same.deciphers) l in
-        (e ∙ behind-key least short tweak message S key k, (work, (cipher-under-key, λ z. rw (work, z) (one_preimage (cipher-under-key z) message (refl, b)))))
+        (e ∙ behind_key least short tweak message S key k, (work, (cipher_under_key, λ z. rw (work, z) (one_preimage (cipher_under_key z) message (refl, b)))))

@@ -10,7 +10,7 @@ use lib.ListN.{take, drop, length-append, length-drop, take-append-drop}
 use lib.Seq.{take_at, drop_at, length-take-le}
 use Rattle.strings.specs.Bytes.{OfLength}
 use Rattle.strings.specs.Cipher.{Permutation, Cipher}
-use Rattle.strings.proofs.Bytes.{below-append, below-take, below-drop}
+use Rattle.strings.proofs.Bytes.{below_append, below_take, below_drop}
 use Rattle.strings.proofs.Permutations.{backwards}
 
 -- How w bytes stand for a value that has `Is`, and a sum of such values in which each is its own inverse.
@@ -20,7 +20,7 @@ pub record Front (w : ℕ) {A : Type 0} (Is : A → Type 0) : Type 0 where
   pub sum : A → A → A
   pub reads : (s : List ℕ) → OfLength w s → Is (read s)
   pub writes : (a : A) → OfLength w (write a)
-  pub read-written : (a : A) → Is a → read (write a) ≡ a
+  pub read_written : (a : A) → Is a → read (write a) ≡ a
   pub written_read : (s : List ℕ) → OfLength w s → write (read s) ≡ s
   pub sum_is : (a b : A) → Is a → Is b → Is (sum a b)
   pub sum_comm : (a b : A) → sum a b ≡ sum b a
@@ -31,8 +31,8 @@ unfoldable pub pair : {v w : ℕ} {A B : Type 0} {Is : A → Type 0} {Is' : B �
 pair {v} {w} f g =
     let split : (s : List ℕ) → OfLength (v + w) s → OfLength v (take v s) × OfLength w (drop v s) =
     λ s h. (
-      (length-take-le v s (rw h.0 (omega arith)), below-take v s h.1),
-      (rw (length-drop v s, h.0) (omega arith), below-drop v s h.1),
+      (length-take-le v s (rw h.0 (omega arith)), below_take v s h.1),
+      (rw (length-drop v s, h.0) (omega arith), below_drop v s h.1),
     ) in
     record {
       read = λ s. (f.read (take v s), g.read (drop v s));
@@ -41,13 +41,13 @@ pair {v} {w} f g =
       reads = λ s h. (f.reads (take v s) (split s h).0, g.reads (drop v s) (split s h).1);
       writes = λ p. (
         rw (length-append, (f.writes p.0).0, (g.writes p.1).0),
-        below-append (f.write p.0) (g.write p.1) (f.writes p.0).1 (g.writes p.1).1,
+        below_append (f.write p.0) (g.write p.1) (f.writes p.0).1 (g.writes p.1).1,
       );
-      read-written = λ p h. rw (
+      read_written = λ p h. rw (
         take_at (f.write p.0) (g.write p.1) v (f.writes p.0).0,
         drop_at (f.write p.0) (g.write p.1) v (f.writes p.0).0,
-        f.read-written p.0 h.0,
-        g.read-written p.1 h.1,
+        f.read_written p.0 h.0,
+        g.read_written p.1 h.1,
       );
       written_read = λ s h. rw (f.written_read (take v s) (split s h).0, g.written_read (drop v s) (split s h).1) (take-append-drop v s);
       sum_is = λ p q hp hq. (f.sum_is p.0 q.0 hp.0 hq.0, g.sum_is p.1 q.1 hp.1 hq.1);
@@ -70,10 +70,10 @@ module _ {w n : ℕ} {A : Type 0} {Is : A → Type 0} (front : Front w Is) {F G 
     (masks : (a : A) → Cipher (n - w) (mask a) (mask a))
     (p : Permutation Is F G) where
   first : (s : List ℕ) → OfLength n s → OfLength w (take w s)
-  first s h = (length-take-le w s (rw h.0 l), below-take w s h.1)
+  first s h = (length-take-le w s (rw h.0 l), below_take w s h.1)
 
   rest : (s : List ℕ) → OfLength n s → OfLength (n - w) (drop w s)
-  rest s h = (rw (length-drop w s, h.0), below-drop w s h.1)
+  rest s h = (rw (length-drop w s, h.0), below_drop w s h.1)
 
   -- What goes into F.
   into : (s : List ℕ) → OfLength n s → Is (front.sum (front.read (take w s)) (g (drop w s)))
@@ -87,7 +87,7 @@ module _ {w n : ℕ} {A : Type 0} {Is : A → Type 0} (front : Front w Is) {F G 
       let k = (masks (front.sum a (F a))).keeps (drop w s) (rest s h) in
       let v = front.sum (F a) (g' c) in (
         rw (length-append, (front.writes v).0, k.0) (omega (arith, l)),
-        below-append (front.write v) c (front.writes v).1 k.1,
+        below_append (front.write v) c (front.writes v).1 k.1,
       )
 
   undone : (s : List ℕ) → OfLength n s → pass front G g' g mask (pass front F g g' mask s) ≡ s
@@ -105,7 +105,7 @@ module _ {w n : ℕ} {A : Type 0} {Is : A → Type 0} (front : Front w Is) {F G 
       rw (
         take_at head c w (front.writes (front.sum b (g' c))).0,
         drop_at head c w (front.writes (front.sum b (g' c))).0,
-        front.read-written (front.sum b (g' c)) (front.sum_is b (g' c) hb (is' c hc)),
+        front.read_written (front.sum b (g' c)) (front.sum_is b (g' c) hb (is' c hc)),
         front.sum_cancel b (g' c),
         p.undone a (into s h),
         masked,
@@ -114,13 +114,13 @@ module _ {w n : ℕ} {A : Type 0} {Is : A → Type 0} (front : Front w Is) {F G 
         take-append-drop w s,
       )
 
-pub pass-cipher : {w n : ℕ} {A : Type 0} {Is : A → Type 0} (front : Front w Is) {F G : A → A} {g g' : List ℕ → A} {mask : A → List ℕ → List ℕ} → w ≤ n
+pub pass_cipher : {w n : ℕ} {A : Type 0} {Is : A → Type 0} (front : Front w Is) {F G : A → A} {g g' : List ℕ → A} {mask : A → List ℕ → List ℕ} → w ≤ n
     → ((y : List ℕ) → OfLength (n - w) y → Is (g y)) → ((y : List ℕ) → OfLength (n - w) y → Is (g' y))
     → ((a : A) → Cipher (n - w) (mask a) (mask a)) → Permutation Is F G
     → Cipher n (pass front F g g' mask) (pass front G g' g mask)
-pass-cipher front l is is' masks p = record {
+pass_cipher front l is is' masks p = record {
   keeps = keeps front l is is' masks p;
-  inverse-keeps = keeps front l is' is masks (backwards p);
+  inverse_keeps = keeps front l is' is masks (backwards p);
   undone = undone front l is is' masks p;
   undoes = undone front l is' is masks (backwards p);
 }

@@ -12,18 +12,18 @@ use lib.ListN.{length, get_or, take, drop, set, take-append-drop, length-append,
 use lib.Seq.{get_or-drop, drop_at, drop-drop, take-nil, take_all, take-length, drop-nil, drop-length, set_out, set-set, set_comm}
 use Rattle.strings.specs.Bytes.{Bytes, number, bytes}
 use Rattle.strings.specs.Inner.{padded, overwrite}
-use Rattle.strings.proofs.Bytes.{bytes-append, bytes-above, number-below, number_append, length-padded, padded-below, padded-suc, below-drop}
+use Rattle.strings.proofs.Bytes.{bytes-append, bytes_above, number_below, number_append, length-padded, padded_below, padded_suc, below_drop}
 
 -- Reading one byte more: what has been read is shifted up.
 pub number-next : (n at : ℕ) (s : List ℕ)
     → number (padded (n + 1) (drop at s)) ≡ number (padded n (drop at s)) * 256 + get_or s (at + n) 0
 unfolding number
-number-next n at s = rw (add-one, padded-suc n (drop at s), number_append, get_or-drop) (omega arith)
+number-next n at s = rw (add-one, padded_suc n (drop at s), number_append, get_or-drop) (omega arith)
 
 pub number_fits : (n m at : ℕ) (s : List ℕ) → Bytes s → n ≤ m → number (padded n (drop at s)) < 256 ^ m
 number_fits n m at s h l =
     lt_of_lt_of_le
-    (rw length-padded at (number-below (padded n (drop at s)) (padded-below n (drop at s) (below-drop at s h))))
+    (rw length-padded at (number_below (padded n (drop at s)) (padded_below n (drop at s) (below_drop at s h))))
     (pow-le-pow_right (omega arith) l)
 
 -- Writing one byte more, at the place before: past the end `set` does nothing.
@@ -39,34 +39,34 @@ overwrite_head t s h = rw (sub-zero, zero-add, take_all (length s) t h)
 pub copied_front : (t s : List ℕ) → length t ≤ length s → take (length t) t ++ drop (length t) s ≡ overwrite 0 t s
 copied_front t s h = rw (overwrite_head t s h, take_all (length t) t (le_refl (length t)))
 
-pub overwrite-whole : (t s : List ℕ) → length t ≡ length s → overwrite 0 t s ≡ t
-overwrite-whole t s h = rw (overwrite_head t s (omega (arith, h)), h, drop-length s, append-nil)
+pub overwrite_whole : (t s : List ℕ) → length t ≡ length s → overwrite 0 t s ≡ t
+overwrite_whole t s h = rw (overwrite_head t s (omega (arith, h)), h, drop-length s, append-nil)
 
-overwrite-empty : (i : ℕ) (t : List ℕ) → overwrite i t [] ≡ []
+overwrite_empty : (i : ℕ) (t : List ℕ) → overwrite i t [] ≡ []
 unfolding overwrite
-overwrite-empty i t = rw (take-nil, zero-sub, drop-nil)
+overwrite_empty i t = rw (take-nil, zero-sub, drop-nil)
 
 overwrite_skip : (i : ℕ) (t : List ℕ) (a : ℕ) (s : List ℕ) → overwrite (suc i) t (a ∷ s) ≡ a ∷ overwrite i t s
 unfolding overwrite
 overwrite_skip i t a s = rw (suc-sub-suc, suc-add)
 
-overwrite-front : (b : ℕ) (t : List ℕ) (a : ℕ) (s : List ℕ) → overwrite 0 (b ∷ t) (a ∷ s) ≡ b ∷ overwrite 0 t s
+overwrite_front : (b : ℕ) (t : List ℕ) (a : ℕ) (s : List ℕ) → overwrite 0 (b ∷ t) (a ∷ s) ≡ b ∷ overwrite 0 t s
 unfolding overwrite
-overwrite-front b t a s = simp (sub-zero, zero-add)
+overwrite_front b t a s = simp (sub-zero, zero-add)
 
 pub overwrite_cons : (i b : ℕ) (t s : List ℕ) → overwrite i (b ∷ t) s ≡ set (overwrite (suc i) t s) i b
-overwrite_cons i b t [] = rw (overwrite-empty i (b ∷ t), overwrite-empty (suc i) t)
-overwrite_cons zero b t (a ∷ s) = rw (overwrite-front b t a s, overwrite_skip 0 t a s)
+overwrite_cons i b t [] = rw (overwrite_empty i (b ∷ t), overwrite_empty (suc i) t)
+overwrite_cons zero b t (a ∷ s) = rw (overwrite_front b t a s, overwrite_skip 0 t a s)
 overwrite_cons (suc i) b t (a ∷ s) = rw (overwrite_skip i (b ∷ t) a s, overwrite_skip (suc i) t a s, overwrite_cons i b t s)
 
 pub length-overwrite : (i : ℕ) (t s : List ℕ) → length (overwrite i t s) ≡ length s
 length-overwrite i [] s = rw overwrite_nil
 length-overwrite i (b ∷ t) s = rw (overwrite_cons i b t s, length-set, length-overwrite (suc i) t s)
 
-pub overwrite-past : (i : ℕ) (t s : List ℕ) → length s ≤ i → overwrite i t s ≡ s
-overwrite-past i [] s h = overwrite_nil i s
-overwrite-past i (b ∷ t) s h =
-    rw (overwrite_cons i b t s, overwrite-past (suc i) t s (omega arith), set_out s i b)
+pub overwrite_past : (i : ℕ) (t s : List ℕ) → length s ≤ i → overwrite i t s ≡ s
+overwrite_past i [] s h = overwrite_nil i s
+overwrite_past i (b ∷ t) s h =
+    rw (overwrite_cons i b t s, overwrite_past (suc i) t s (omega arith), set_out s i b)
 
 overwrite_set : (i b j : ℕ) (t s : List ℕ) → i < j → set (overwrite j t s) i b ≡ overwrite j t (set s i b)
 overwrite_set i b j [] s h = rw (overwrite_nil j s, overwrite_nil j (set s i b))
@@ -91,23 +91,23 @@ overwrite-append i (b ∷ t) u s =
     )
 
 -- Written over by as many bytes at the same place.
-pub overwrite-again : (i : ℕ) (a t u s : List ℕ) → length a ≡ length t → overwrite i t (overwrite i (a ++ u) s) ≡ overwrite i (t ++ u) s
-overwrite-again i [] [] u s h = overwrite_nil i (overwrite i u s)
-overwrite-again i [] (b ∷ t) u s h = absurd (omega arith)
-overwrite-again i (b ∷ a) [] u s h = absurd (omega arith)
-overwrite-again i (b ∷ a) (c ∷ t) u s h =
+pub overwrite_again : (i : ℕ) (a t u s : List ℕ) → length a ≡ length t → overwrite i t (overwrite i (a ++ u) s) ≡ overwrite i (t ++ u) s
+overwrite_again i [] [] u s h = overwrite_nil i (overwrite i u s)
+overwrite_again i [] (b ∷ t) u s h = absurd (omega arith)
+overwrite_again i (b ∷ a) [] u s h = absurd (omega arith)
+overwrite_again i (b ∷ a) (c ∷ t) u s h =
     rw (
       overwrite_cons i b (a ++ u) s,
       overwrite_cons i c t (set (overwrite (suc i) (a ++ u) s) i b),
       sym (overwrite_set i b (suc i) t (overwrite (suc i) (a ++ u) s) (omega arith)),
       set-set,
-      overwrite-again (suc i) a t u s (omega arith),
+      overwrite_again (suc i) a t u s (omega arith),
       overwrite_cons i c (t ++ u) s,
     )
 
 -- The bytes of a number of two parts.
 pub bytes_join : (m n q : ℕ) {r : ℕ} → r < 256 ^ n → bytes (m + n) (q * 256 ^ n + r) ≡ bytes m q ++ bytes n r
-bytes_join m n q {r} h = rw (bytes-append m n (q * 256 ^ n + r), digits_div q h, bytes-above n q r)
+bytes_join m n q {r} h = rw (bytes-append m n (q * 256 ^ n + r), digits_div q h, bytes_above n q r)
 
 -- Writing a number's bytes from the last on: the next byte, and what is left above it.
 pub overwrite-next : (k n w : ℕ) (s : List ℕ)
@@ -115,29 +115,29 @@ pub overwrite-next : (k n w : ℕ) (s : List ℕ)
 unfolding bytes
 overwrite-next k n w s = rw (add-one k, add-one n, overwrite_cons k (w / 256 ^ n % 256) (bytes n w) s)
 
-pub rest-next : (n w : ℕ) → w / 256 ^ (n + 1) ≡ w / 256 ^ n / 256
-rest-next n w = rw (add-one, pow-suc, div-div-eq-div-mul)
+pub rest_next : (n w : ℕ) → w / 256 ^ (n + 1) ≡ w / 256 ^ n / 256
+rest_next n w = rw (add-one, pow-suc, div-div-eq-div-mul)
 
 -- What is in front of the end of what was written, and what is behind it.
 pub take-overwrite : (i : ℕ) (t s : List ℕ) → take (i + length t) (overwrite i t s) ≡ take i s ++ take (length s - i) t
-take-overwrite i t [] = rw (overwrite-empty i t, take-nil (i + length t), take-nil i, zero-sub i)
+take-overwrite i t [] = rw (overwrite_empty i t, take-nil (i + length t), take-nil i, zero-sub i)
 take-overwrite zero [] (a ∷ s) = rw take-nil
 take-overwrite zero (b ∷ t) (a ∷ s) =
     let h = take-overwrite zero t s in
-    rw (overwrite-front b t a s, zero-add, sub-zero) (ap (λ (l : List ℕ). b ∷ l) (simp (zero-add, sub-zero) at h))
+    rw (overwrite_front b t a s, zero-add, sub-zero) (ap (λ (l : List ℕ). b ∷ l) (simp (zero-add, sub-zero) at h))
 take-overwrite (suc i) t (a ∷ s) = rw (overwrite_skip i t a s, suc-add, take-overwrite i t s, suc-sub-suc)
 
 pub drop-overwrite : (i : ℕ) (t s : List ℕ) → drop (i + length t) (overwrite i t s) ≡ drop (i + length t) s
-drop-overwrite i t [] = rw overwrite-empty
+drop-overwrite i t [] = rw overwrite_empty
 drop-overwrite zero [] (a ∷ s) = rw overwrite_nil
 drop-overwrite zero (b ∷ t) (a ∷ s) =
     let h = drop-overwrite zero t s in
-    rw (overwrite-front b t a s, zero-add) (rw zero-add at h)
+    rw (overwrite_front b t a s, zero-add) (rw zero-add at h)
 drop-overwrite (suc i) t (a ∷ s) = rw (overwrite_skip i t a s, suc-add, drop-overwrite i t s)
 
 -- The part behind the first w bytes, lent by itself: what it is, and the whole when it comes back as t.
-pub part-behind : (w : ℕ) (s : List ℕ) → take (length s - w) (drop w s) ≡ drop w s
-part-behind w s = take_all (length s - w) (drop w s) (rw length-drop (omega arith))
+pub part_behind : (w : ℕ) (s : List ℕ) → take (length s - w) (drop w s) ≡ drop w s
+part_behind w s = take_all (length s - w) (drop w s) (rw length-drop (omega arith))
 
 pub put_back : (w : ℕ) (s t : List ℕ) → take w s ++ (t ++ drop (length s - w) (drop w s)) ≡ take w s ++ t
 put_back w s t =
@@ -160,6 +160,6 @@ overwrite-part i n t s e =
       drop_of_length-le s {i = i + length t} (omega arith),
     )) (eq-or-lt_of_le some))
 
-pub overwrite-front-part : (w : ℕ) (a t u : List ℕ) → length a ≡ w → length u ≡ w → overwrite 0 u (a ++ t) ≡ u ++ t
-overwrite-front-part w a t u ha hu =
+pub overwrite_front_part : (w : ℕ) (a t u : List ℕ) → length a ≡ w → length u ≡ w → overwrite 0 u (a ++ t) ≡ u ++ t
+overwrite_front_part w a t u ha hu =
     rw (overwrite_head u (a ++ t) (rw (length-append, ha, hu) (omega arith)), hu) (ap (λ (r : List ℕ). u ++ r) (drop_at a t w ha))

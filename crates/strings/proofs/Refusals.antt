@@ -29,8 +29,8 @@ refusal_range ListLength = (omega arith, omega arith, λ e. omega (arith, e))
 refusal_range Blank = (omega arith, omega arith, λ e. omega (arith, e))
 refusal_range ForwardTooShort = (omega arith, omega arith, λ e. omega (arith, e))
 
-refusal-some : (why : Refusal) → refusal_number why ≡ 0 → ⊥
-refusal-some why e = omega (arith, (refusal_range why).0, e)
+refusal_some : (why : Refusal) → refusal_number why ≡ 0 → ⊥
+refusal_some why e = omega (arith, (refusal_range why).0, e)
 
 -- An answer's number has at most two digits.
 pub number_range : (a : Answer) → number_of a < 100
@@ -39,15 +39,15 @@ number_range (Refused why) = omega (arith, (refusal_range why).1)
 
 -- ---- tests one by one
 
-refused-stays : (why : Refusal) (tests : Tests) → in_turn (Refused why) tests ≡ Refused why
+refused_stays : (why : Refusal) (tests : Tests) → in_turn (Refused why) tests ≡ Refused why
 unfolding in_turn refuse_if
-refused-stays why [] = refl
-refused-stays why (t ∷ tests) = refused-stays why tests
+refused_stays why [] = refl
+refused_stays why (t ∷ tests) = refused_stays why tests
 
 pub in_turn_lem : (tests : Tests) → in_turn Done tests ≡ looks_at tests
 unfolding in_turn refuse_if looks_at
 in_turn_lem [] = refl
-in_turn_lem ((true, why) ∷ tests) = refused-stays why tests
+in_turn_lem ((true, why) ∷ tests) = refused_stays why tests
 in_turn_lem ((false, why) ∷ tests) = in_turn_lem tests
 
 -- ---- what the answer tells
@@ -60,7 +60,7 @@ NoneHolds ((holds, why) ∷ tests) = (holds ≡ false) × NoneHolds tests
 pub none_holds : (tests : Tests) → number_of (looks_at tests) ≡ 0 → NoneHolds tests
 unfolding looks_at
 none_holds [] e = tt
-none_holds ((true, why) ∷ tests) e = absurd (refusal-some why e)
+none_holds ((true, why) ∷ tests) e = absurd (refusal_some why e)
 none_holds ((false, why) ∷ tests) e = (refl, none_holds tests e)
 
 pub all_passed : (tests : Tests) → NoneHolds tests → looks_at tests ≡ Done
@@ -71,7 +71,7 @@ all_passed ((holds, why) ∷ tests) h = rw h.0 (all_passed tests h.1)
 -- A refusal by the first n tests is one by all of them.
 pub refused_early : (n : ℕ) (tests : Tests) (why : Refusal) → looks_at (take n tests) ≡ Refused why → looks_at tests ≡ Refused why
 unfolding looks_at
-refused_early zero tests why e = absurd (refusal-some why (sym (ap number_of e)))
+refused_early zero tests why e = absurd (refusal_some why (sym (ap number_of e)))
 refused_early (suc n) [] why e = e
 refused_early (suc n) ((true, first) ∷ tests) why e = e
 refused_early (suc n) ((false, first) ∷ tests) why e = refused_early n tests why e
@@ -86,8 +86,8 @@ either false b e = inr e
 
 -- ---- what a refusal leaves
 
-pub refusal-leaves : (why : Refusal) (work lent : List ℕ) → lent ≡ left_by (refusal_number why) work lent
-refusal-leaves why work lent = by (refusal_number why) (refusal-some why)
+pub refusal_leaves : (why : Refusal) (work lent : List ℕ) → lent ≡ left_by (refusal_number why) work lent
+refusal_leaves why work lent = by (refusal_number why) (refusal_some why)
   where
     by : (n : ℕ) → (n ≡ 0 → ⊥) → lent ≡ left_by n work lent
     by zero h = absurd (h refl)
@@ -95,8 +95,8 @@ refusal-leaves why work lent = by (refusal_number why) (refusal-some why)
 
 -- Of an answer that is a refusal.
 module _ {a : Answer} {why : Refusal} (e : a ≡ Refused why) where
-  pub refused-some : number_of a ≡ 0 → ⊥
-  refused-some z = refusal-some why (rw e at z)
+  pub refused_some : number_of a ≡ 0 → ⊥
+  refused_some z = refusal_some why (rw e at z)
 
-  pub refused-leaves : (work lent : List ℕ) → lent ≡ left_by (number_of a) work lent
-  refused-leaves work lent = rw e (refusal-leaves why work lent)
+  pub refused_leaves : (work lent : List ℕ) → lent ≡ left_by (number_of a) work lent
+  refused_leaves work lent = rw e (refusal_leaves why work lent)

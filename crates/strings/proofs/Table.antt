@@ -25,9 +25,9 @@ entry f n e k h = rw (e, from f n 0 k h, zero-add)
 pub same : (f g : ℕ → ℕ) (n : ℕ) → table f n 0 ≡ table g n 0 → (k : ℕ) → k < n → f k ≡ g k
 same f g n e k h = sym (entry f n refl k h) ∙ entry g n e k h
 
-length-table : (f : ℕ → ℕ) (n i : ℕ) → length (table f n i) ≡ n
-length-table f zero i = refl
-length-table f (suc n) i = ap suc (length-table f n (suc i))
+length_table : (f : ℕ → ℕ) (n i : ℕ) → length (table f n i) ≡ n
+length_table f zero i = refl
+length_table f (suc n) i = ap suc (length_table f n (suc i))
 
 pub table_below : {m : ℕ} (f : ℕ → ℕ) (n i : ℕ) → ((j : ℕ) → f j < m) → Below m (table f n i)
 table_below f zero i h j = let l = h 0 in omega arith
@@ -37,4 +37,4 @@ table_below f (suc n) i h (suc j) = table_below f n (suc i) h j
 -- A list with f's values is f's table.
 pub is_table : (f : ℕ → ℕ) (n : ℕ) (s : List ℕ) → length s ≡ n → ((j : ℕ) → j < n → get_or s j 0 ≡ f j) → s ≡ table f n 0
 is_table f n s e h =
-    ext_get_or 0 s (table f n 0) (e ∙ sym (length-table f n 0)) (λ j l. h j (omega arith) ∙ sym (entry f n refl j (omega arith)))
+    ext_get_or 0 s (table f n 0) (e ∙ sym (length_table f n 0)) (λ j l. h j (omega arith) ∙ sym (entry f n refl j (omega arith)))

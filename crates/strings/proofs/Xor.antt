@@ -12,9 +12,9 @@ pub xor_zero_left : (a : ℕ) → 0 ⊕ a ≡ a
 unfolding ◌⊕◌
 xor_zero_left a = refl
 
-pub xor-zero : (a : ℕ) → a ⊕ 0 ≡ a
+pub xor_zero : (a : ℕ) → a ⊕ 0 ≡ a
 unfolding ◌⊕◌
-xor-zero a = bits.xor_zero_r a
+xor_zero a = bits.xor_zero_r a
 
 pub xor_self : (a : ℕ) → a ⊕ a ≡ 0
 unfolding ◌⊕◌
@@ -37,9 +37,9 @@ pub xor_mod : (k a b : ℕ) → (a ⊕ b) % 2 ^ k ≡ a % 2 ^ k ⊕ b % 2 ^ k
 unfolding ◌⊕◌
 xor_mod k a b = bits.xor_mod a b k
 
-pub xor-parts : (k a b c d : ℕ) → c < 2 ^ k → d < 2 ^ k → (a * 2 ^ k + c) ⊕ (b * 2 ^ k + d) ≡ (a ⊕ b) * 2 ^ k + (c ⊕ d)
+pub xor_parts : (k a b c d : ℕ) → c < 2 ^ k → d < 2 ^ k → (a * 2 ^ k + c) ⊕ (b * 2 ^ k + d) ≡ (a ⊕ b) * 2 ^ k + (c ⊕ d)
 unfolding ◌⊕◌
-xor-parts k a b c d hc hd = bits.xor_block k a b c d hc hd
+xor_parts k a b c d hc hd = bits.xor_block k a b c d hc hd
 
 -- A number above k digits and one of k digits have none in common: their sum is the usual one.
 pub xor_disjoint : (k a b : ℕ) → b < 2 ^ k → a * 2 ^ k ⊕ b ≡ a * 2 ^ k + b
@@ -70,13 +70,13 @@ xor_assoc =
     (simp (xor_shr 1) (h (b / 2) (c / 2)))
     (simp (xor_mod 1) (digit_assoc (a % 2) (b % 2) (c % 2) (bit a) (bit b) (bit c))))
 
-pub xor-left-comm : (a b c : ℕ) → a ⊕ (b ⊕ c) ≡ b ⊕ (a ⊕ c)
-xor-left-comm a b c = rw (← xor_assoc a b c, xor_comm a b, xor_assoc)
+pub xor_left_comm : (a b c : ℕ) → a ⊕ (b ⊕ c) ≡ b ⊕ (a ⊕ c)
+xor_left_comm a b c = rw (← xor_assoc a b c, xor_comm a b, xor_assoc)
 
 pub xor_cancel : (a b : ℕ) → a ⊕ (a ⊕ b) ≡ b
 xor_cancel a b = rw (← xor_assoc a a b, xor_self a, xor_zero_left)
 
 pub xor_cancel_right : (a b : ℕ) → a ⊕ b ⊕ b ≡ a
-xor_cancel_right a b = simp (xor_assoc, xor_self, xor-zero)
+xor_cancel_right a b = simp (xor_assoc, xor_self, xor_zero)
 
-pub ruleset xor_laws = (xor_assoc, xor_comm, xor-left-comm, xor_cancel, xor_self, xor-zero, xor_zero_left)
+pub ruleset xor_laws = (xor_assoc, xor_comm, xor_left_comm, xor_cancel, xor_self, xor_zero, xor_zero_left)

@@ -5,7 +5,7 @@ use Rattle.strings.specs.Bytes.{OfLength}
 -- f and g keep what has P, and each undoes the other there.
 pub record Permutation {A : Type 0} (P : A → Type 0) (f g : A → A) : Type 0 where
   pub keeps : (a : A) → P a → P (f a)
-  pub inverse-keeps : (a : A) → P a → P (g a)
+  pub inverse_keeps : (a : A) → P a → P (g a)
   pub undone : (a : A) → P a → g (f a) ≡ a
   pub undoes : (a : A) → P a → f (g a) ≡ a
 

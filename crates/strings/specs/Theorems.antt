@@ -7,9 +7,9 @@ use Rattle.strings.specs.One.{ExactlyOne, count, OneString, OnePreimage}
 
 pub record Theorems : Type 0 where
   -- Exclusive or is a commutative group in which each number is its own inverse, and keeps the numbers of k digits.
-  pub sum-assoc : (a b c : ℕ) → a ⊕ b ⊕ c ≡ a ⊕ (b ⊕ c)
+  pub sum_assoc : (a b c : ℕ) → a ⊕ b ⊕ c ≡ a ⊕ (b ⊕ c)
   pub sum_comm : (a b : ℕ) → a ⊕ b ≡ b ⊕ a
-  pub sum-zero : (a : ℕ) → a ⊕ 0 ≡ a
+  pub sum_zero : (a : ℕ) → a ⊕ 0 ≡ a
   pub sum_self : (a : ℕ) → a ⊕ a ≡ 0
   pub sum_below : (k a b : ℕ) → a < 2 ^ k → b < 2 ^ k → a ⊕ b < 2 ^ k
   -- Numbers and byte strings undo each other; the bytes of a sum are the sum of the bytes.
@@ -17,11 +17,11 @@ pub record Theorems : Type 0 where
   pub bytes_of_number : (s : List ℕ) → Bytes s → bytes (length s) (number s) ≡ s
   pub bytes_of_sum : (n a b : ℕ) → bytes n (a ⊕ b) ≡ xor_bytes (bytes n a) (bytes n b)
   -- Where exactly one passes a test the count is 1, of numbers below a bound and of strings of n bytes.
-  pub count-numbers : (test : ℕ → Bool) (n a : ℕ) → ExactlyOne (λ v. v < n) test a → count test n ≡ 1
+  pub count_numbers : (test : ℕ → Bool) (n a : ℕ) → ExactlyOne (λ v. v < n) test a → count test n ≡ 1
   pub count_strings : (test : List ℕ → Bool) (n : ℕ) (s : List ℕ) → ExactlyOne (OfLength n) test s → count (λ v. test (bytes n v)) (256 ^ n) ≡ 1
   -- Where exactly one string of m bytes passes a test, and exactly one of n bytes another, exactly one of m + n bytes passes both with its two parts: those two,
   -- one behind the other. The count is 1.
-  pub two-parts : (m n : ℕ) (f g : List ℕ → Bool) (s t : List ℕ) → OneString m f s → OneString n g t
+  pub two_parts : (m n : ℕ) (f g : List ℕ → Bool) (s t : List ℕ) → OneString m f s → OneString n g t
       → OneString (m + n) (λ u. f (take m u) && g (drop m u)) (s ++ t)
   -- A cipher of n bytes sends exactly one string of n bytes to each.
   pub one_preimage : (n : ℕ) (f g : List ℕ → List ℕ) → Cipher n f g → (s : List ℕ) → OfLength n s → OnePreimage n f s (g s)

@@ -18,7 +18,7 @@ use Rattle.text.specs.declared.hex.Decoded.TheVariants.{Bytes, Refused}
 use Rattle.text.specs.Hex.{digit, is_digit, value, hex, all_digits, is_hex, unhex}
 use Rattle.text.specs.Part.{split}
 use Rattle.text.specs.Inner.{before, decoded_of, field_of}
-use Rattle.text.proofs.Parts.{before_le, split-none}
+use Rattle.text.proofs.Parts.{before_le, split_none}
 
 -- ---- one digit
 
@@ -160,17 +160,17 @@ hex-unhex s e = pairs s (even_digits s e).0 (even_digits s e).1
 
 -- ---- a byte that is no digit does not stand among digits
 
-pub before-digits : (b : ℕ) (s : List ℕ) → is_digit b ≡ false → all_digits s ≡ true → before b s ≡ s
+pub before_digits : (b : ℕ) (s : List ℕ) → is_digit b ≡ false → all_digits s ≡ true → before b s ≡ s
 unfolding before all_digits
-before-digits b [] n e = refl
-before-digits b (c ∷ s) n e =
+before_digits b [] n e = refl
+before_digits b (c ∷ s) n e =
     let h = (and-eq-true_iff (is_digit c) (all_digits s)).0 e in
     let other : c ≡ b → ⊥ = λ same. let z : ◌≡◌ {A = ℕ} 0 1 = cc (h.0, ap is_digit same) in omega arith in
-    rw (ne_eqb c b other) (ap (λ (l : List ℕ). c ∷ l) (before-digits b s n h.1))
+    rw (ne_eqb c b other) (ap (λ (l : List ℕ). c ∷ l) (before_digits b s n h.1))
 
 -- so they are one part
-pub split-digits : (b : ℕ) (s : List ℕ) → is_digit b ≡ false → all_digits s ≡ true → split b s ≡ s ∷ []
-split-digits b s n e = split-none b [] s (omega (arith, ap length (before-digits b s n e)))
+pub split_digits : (b : ℕ) (s : List ℕ) → is_digit b ≡ false → all_digits s ≡ true → split b s ≡ s ∷ []
+split_digits b s n e = split_none b [] s (omega (arith, ap length (before_digits b s n e)))
 
 -- ---- what the answers tell
 

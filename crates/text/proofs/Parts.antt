@@ -14,7 +14,7 @@ use Rattle.std.specs.List.{position_or_len}
 use Rattle.std.proofs.lemmas.List.Recursion.{is_position_or_len}
 use Rattle.std.proofs.lemmas.List.Sums.{position_or_len_is}
 use Rattle.strings.specs.Inner.{overwrite}
-use Rattle.strings.proofs.Place.{length-overwrite, overwrite-past, overwrite-append}
+use Rattle.strings.proofs.Place.{length-overwrite, overwrite_past, overwrite-append}
 use Rattle.text.specs.Part.{split_from}
 use Rattle.text.specs.Inner.{before, line_with, kept_with}
 use Rattle.text.specs.declared.part.Kept.{Kept}
@@ -48,14 +48,14 @@ before_le b [] = zero-le
 before_le b (x ∷ xs) = shorter (eqb x b) x xs (before b xs) (before_le b xs)
 
 -- The part in front of the first b stands at the front. Each law goes by the test whether the first byte is b, its value t.
-take-test : (t : Bool) (x : ℕ) (xs ys : List ℕ) → take (length ys) xs ≡ ys → take (length (cond t [] (x ∷ ys))) (x ∷ xs) ≡ cond t [] (x ∷ ys)
-take-test true x xs ys e = refl
-take-test false x xs ys e = ap (λ (l : List ℕ). x ∷ l) e
+take_test : (t : Bool) (x : ℕ) (xs ys : List ℕ) → take (length ys) xs ≡ ys → take (length (cond t [] (x ∷ ys))) (x ∷ xs) ≡ cond t [] (x ∷ ys)
+take_test true x xs ys e = refl
+take_test false x xs ys e = ap (λ (l : List ℕ). x ∷ l) e
 
 pub before-take : (b : ℕ) (xs : List ℕ) → take (length (before b xs)) xs ≡ before b xs
 unfolding before
 before-take b [] = refl
-before-take b (x ∷ xs) = take-test (eqb x b) x xs (before b xs) (before-take b xs)
+before-take b (x ∷ xs) = take_test (eqb x b) x xs (before b xs) (before-take b xs)
 
 -- as long as the list: there is no b, and it is the list
 all_test : (t : Bool) (x : ℕ) (xs ys : List ℕ) → (length xs ≤ length ys → ys ≡ xs) → suc (length xs) ≤ length (cond t [] (x ∷ ys)) → cond t [] (x ∷ ys) ≡ x ∷ xs
@@ -68,15 +68,15 @@ before_all b [] h = refl
 before_all b (x ∷ xs) h = all_test (eqb x b) x xs (before b xs) (before_all b xs) h
 
 -- shorter than the list: b follows, and then the rest
-found-test : (t : Bool) (b x : ℕ) (xs ys : List ℕ) → eqb x b ≡ t → (length ys < length xs → xs ≡ ys ++ b ∷ drop (suc (length ys)) xs)
+found_test : (t : Bool) (b x : ℕ) (xs ys : List ℕ) → eqb x b ≡ t → (length ys < length xs → xs ≡ ys ++ b ∷ drop (suc (length ys)) xs)
     → length (cond t [] (x ∷ ys)) < suc (length xs) → x ∷ xs ≡ cond t [] (x ∷ ys) ++ b ∷ drop (length (cond t [] (x ∷ ys))) xs
-found-test true b x xs ys e found h = ap (λ (n : ℕ). n ∷ xs) (eqb-true x b e)
-found-test false b x xs ys e found h = ap (λ (l : List ℕ). x ∷ l) (found (le_of_suc-le-suc h))
+found_test true b x xs ys e found h = ap (λ (n : ℕ). n ∷ xs) (eqb-true x b e)
+found_test false b x xs ys e found h = ap (λ (l : List ℕ). x ∷ l) (found (le_of_suc-le-suc h))
 
 pub before-found : (b : ℕ) (xs : List ℕ) → length (before b xs) < length xs → xs ≡ before b xs ++ b ∷ drop (suc (length (before b xs))) xs
 unfolding before
 before-found b [] h = absurd (not-suc-le-zero h)
-before-found b (x ∷ xs) h = found-test (eqb x b) b x xs (before b xs) refl (before-found b xs) h
+before-found b (x ∷ xs) h = found_test (eqb x b) b x xs (before b xs) refl (before-found b xs) h
 
 one_more : (ys zs xs : List ℕ) (b : ℕ) → xs ≡ ys ++ b ∷ zs → take (suc (length ys)) xs ≡ ys ++ b ∷ []
 one_more ys zs xs b e = rw (e, ← add-one (length ys)) (take-append-add ys (b ∷ zs) 1)
@@ -86,48 +86,48 @@ before_end b xs h = one_more (before b xs) (drop (suc (length (before b xs))) xs
 
 -- ---- the parts between the b's: what stands in front of the first b is of the first part, and b ends it
 
-before-test : (t : Bool) (b x : ℕ) (u ys z : List ℕ) → eqb x b ≡ t → split_from b (u ++ x ∷ []) (ys ++ z) ≡ split_from b ((u ++ x ∷ []) ++ ys) z
+before_test : (t : Bool) (b x : ℕ) (u ys z : List ℕ) → eqb x b ≡ t → split_from b (u ++ x ∷ []) (ys ++ z) ≡ split_from b ((u ++ x ∷ []) ++ ys) z
     → split_from b u (cond t [] (x ∷ ys) ++ z) ≡ split_from b (u ++ cond t [] (x ∷ ys)) z
 unfolding split_from
-before-test true b x u ys z e h = rw (append-nil u) refl
-before-test false b x u ys z e h = rw (e, ← append_assoc u (x ∷ []) ys) h
+before_test true b x u ys z e h = rw (append-nil u) refl
+before_test false b x u ys z e h = rw (e, ← append_assoc u (x ∷ []) ys) h
 
 pub split-before : (b : ℕ) (u xs z : List ℕ) → split_from b u (before b xs ++ z) ≡ split_from b (u ++ before b xs) z
 unfolding before
 split-before b u [] z = rw (append-nil u) refl
-split-before b u (x ∷ xs) z = before-test (eqb x b) b x u (before b xs) z refl (split-before b (u ++ x ∷ []) xs z)
+split-before b u (x ∷ xs) z = before_test (eqb x b) b x u (before b xs) z refl (split-before b (u ++ x ∷ []) xs z)
 
 pub split_end : (b : ℕ) (u z : List ℕ) → split_from b u (b ∷ z) ≡ u ∷ split_from b [] z
 unfolding split_from
 split_end b u z = rw (eq-eqb b b refl) refl
 
-pub split-none : (b : ℕ) (u xs : List ℕ) → length xs ≤ length (before b xs) → split_from b u xs ≡ (u ++ xs) ∷ []
+pub split_none : (b : ℕ) (u xs : List ℕ) → length xs ≤ length (before b xs) → split_from b u xs ≡ (u ++ xs) ∷ []
 unfolding split_from
-split-none b u xs h = rw (append-nil (before b xs), before_all b xs h) at (split-before b u xs [])
+split_none b u xs h = rw (append-nil (before b xs), before_all b xs h) at (split-before b u xs [])
 
-pub split-first : (b : ℕ) (u xs : List ℕ) → length (before b xs) < length xs
+pub split_first : (b : ℕ) (u xs : List ℕ) → length (before b xs) < length xs
     → split_from b u xs ≡ (u ++ before b xs) ∷ split_from b [] (drop (suc (length (before b xs))) xs)
-split-first b u xs h =
+split_first b u xs h =
     let rest = drop (suc (length (before b xs))) xs in
     ap (λ (l : List ℕ). split_from b u l) (before-found b xs h) ∙ split-before b u xs (b ∷ rest) ∙ split_end b (u ++ before b xs) rest
 
 -- ---- a line goes on with more
 
 -- what is kept, by the test whether there is room, its value t
-bytes-test : (t : Bool) (line : List ℕ) (n : ℕ) (a b : List ℕ) → leb (n + length a) (length line) ≡ t
+bytes_test : (t : Bool) (line : List ℕ) (n : ℕ) (a b : List ℕ) → leb (n + length a) (length line) ≡ t
     → line_with (overwrite n a line) (cond t (Characters (n + length a)) TooLong) b ≡ overwrite n (a ++ b) line
 unfolding line_with
-bytes-test true line n a b e = sym (overwrite-append n a b line)
-bytes-test false line n a b e =
+bytes_test true line n a b e = sym (overwrite-append n a b line)
+bytes_test false line n a b e =
     let past : length (overwrite n a line) ≤ n + length a = rw length-overwrite (le_of_lt (leb-false (n + length a) (length line) e)) in
-    rw (overwrite-append n a b line) (sym (overwrite-past (n + length a) b (overwrite n a line) past))
+    rw (overwrite-append n a b line) (sym (overwrite_past (n + length a) b (overwrite n a line) past))
 
 -- the bytes of a line that goes on with two parts, one after the other, are those of one that goes on with both
-pub bytes-twice : (line : List ℕ) (kept : Kept) (a b : List ℕ)
+pub bytes_twice : (line : List ℕ) (kept : Kept) (a b : List ℕ)
     → line_with (line_with line kept a) (kept_with line kept a) b ≡ line_with line kept (a ++ b)
 unfolding line_with kept_with
-bytes-twice line (Characters n) a b = bytes-test (leb (n + length a) (length line)) line n a b refl
-bytes-twice line TooLong a b = refl
+bytes_twice line (Characters n) a b = bytes_test (leb (n + length a) (length line)) line n a b refl
+bytes_twice line TooLong a b = refl
 
 kept_test : (t : Bool) (line line' : List ℕ) (n : ℕ) (a b : List ℕ) → length line' ≡ length line → leb (n + length a) (length line) ≡ t
     → kept_with line' (cond t (Characters (n + length a)) TooLong) b ≡ kept_with line (Characters n) (a ++ b)

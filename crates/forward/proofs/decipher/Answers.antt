@@ -3,7 +3,7 @@ use mathlib.Core.Path.{◌≡◌, refl, sym, ◌∙◌}
 use mathlib.Core.Bool.{true, false}
 use native.Mathlib.Omega.{arith}
 use Rattle.strings.specs.declared.refusal.Refusal.TheVariants.{ForwardTooShort}
-use Rattle.strings.proofs.OnMessages.{no_key, deciphered-under-key}
+use Rattle.strings.proofs.OnMessages.{no_key, deciphered_under_key}
 use Rattle.forward.specs.Forward.{forward}
 use Rattle.forward.specs.Call.{tests}
 use Rattle.forward.proofs.decipher.Goals as goal
@@ -14,7 +14,7 @@ returns-then-expansion c =
     let args = c.args in
     let k : forward.is_key args.key.now ≡ true = sym c.expand-expansion.ensures.is_key_value ∙ c.if-expansion.true in
     let e = c.decipher_with.ensures in
-    let done = deciphered-under-key 33 ForwardTooShort forward args.key.now args.tweak.now args.ciphertext.now k (c.expand-expansion.ensures.same k) e.value e.cipher (λ i. (c.slice_known-1.given i).fits) e.ciphertext_after in
+    let done = deciphered_under_key 33 ForwardTooShort forward args.key.now args.tweak.now args.ciphertext.now k (c.expand-expansion.ensures.same k) e.value e.cipher (λ i. (c.slice_known-1.given i).fits) e.ciphertext_after in
     record { value = done.0; ciphertext_after = done.1.0; cipher = done.1.1.0; one_plaintext = done.1.1.1 }
 
 pub returns : goal.returns

@@ -3,7 +3,7 @@ use mathlib.Core.Path.{◌≡◌, refl, sym, ◌∙◌}
 use mathlib.Core.Bool.{true, false}
 use native.Mathlib.Omega.{arith}
 use Rattle.strings.specs.declared.refusal.Refusal.TheVariants.{ForwardTooShort}
-use Rattle.strings.proofs.OnMessages.{no_key, enciphered-under-key}
+use Rattle.strings.proofs.OnMessages.{no_key, enciphered_under_key}
 use Rattle.forward.specs.Forward.{forward}
 use Rattle.forward.specs.Call.{tests}
 use Rattle.forward.proofs.encipher.Goals as goal
@@ -14,7 +14,7 @@ returns-then-expansion c =
     let args = c.args in
     let k : forward.is_key args.key.now ≡ true = sym c.expand-expansion.ensures.is_key_value ∙ c.if-expansion.true in
     let e = c.encipher_with.ensures in
-    let done = enciphered-under-key 33 ForwardTooShort forward args.key.now args.tweak.now args.message.now k (c.expand-expansion.ensures.same k) e.value e.cipher e.message_after in
+    let done = enciphered_under_key 33 ForwardTooShort forward args.key.now args.tweak.now args.message.now k (c.expand-expansion.ensures.same k) e.value e.cipher e.message_after in
     record { value = done.0; message_after = done.1.0; cipher = done.1.1 }
 
 pub returns : goal.returns

@@ -4,8 +4,8 @@ use native.Mathlib.Omega.{arith}
 use lib.ListN.{length}
 use Rattle.strings.specs.Call.{number_of}
 use Rattle.strings.specs.declared.refusal.Refusal.TheVariants.{ForwardTooShort}
-use Rattle.strings.proofs.OnMessages.{admitted-behind-key, done-behind-key}
-use Rattle.blocks.proofs.Blocks.{block-whole}
+use Rattle.strings.proofs.OnMessages.{admitted_behind_key, done_behind_key}
+use Rattle.blocks.proofs.Blocks.{block_whole}
 use Rattle.forward.specs.Forward.{enciphered_by}
 use Rattle.forward.specs.Expanded.{forward_under}
 use Rattle.forward.proofs.Theorems.{under-cipher}
@@ -15,7 +15,7 @@ pub encipher_message-requires : goal.encipher_message-requires
 encipher_message-requires c =
     let args = c.args in
     -- what the tests tell where the work is to be done
-    let a = admitted-behind-key 33 ForwardTooShort args.tweak.now args.message.now (ap number_of (sym c.judge-answer.ensures ∙ c.in-Done.is)) in
+    let a = admitted_behind_key 33 ForwardTooShort args.tweak.now args.message.now (ap number_of (sym c.judge-answer.ensures ∙ c.in-Done.is)) in
     (omega (arith, a.at_least), a.at_most)
 
 pub returns-in-Done : goal.returns-in-Done
@@ -24,8 +24,8 @@ returns-in-Done c =
     let args = c.args in
     let tweak = args.tweak.now in
     let message = args.message.now in
-    let a = admitted-behind-key 33 ForwardTooShort tweak message (ap number_of (sym c.judge-answer.ensures ∙ c.in-Done.is)) in
-    let done = done-behind-key (forward_under args.expanded) 33 ForwardTooShort tweak message _ c.judge-answer.ensures c.in-Done.is
-    (rw (c.encipher_message.ensures, c.read.ensures, block-whole tweak a.tweak-length))
+    let a = admitted_behind_key 33 ForwardTooShort tweak message (ap number_of (sym c.judge-answer.ensures ∙ c.in-Done.is)) in
+    let done = done_behind_key (forward_under args.expanded) 33 ForwardTooShort tweak message _ c.judge-answer.ensures c.in-Done.is
+    (rw (c.encipher_message.ensures, c.read.ensures, block_whole tweak a.tweak-length))
     (under-cipher args.expanded (length message) a.at_least tweak (a.tweak-length, λ i. (c.type_inv.tweak i).fits)) in
     record { value = done.0; message_after = done.1.0; cipher = done.1.1 }

@@ -7,9 +7,9 @@ use borrow.Author.Rules.{rules}
 use Rattle.blocks.specs.Blocks.{IsBlock}
 use Rattle.blocks.specs.BlockField.{◌·◌, power_sum}
 use Rattle.blocks.specs.Inner.{value}
-use Rattle.blocks.proofs.Halves.{value-below}
+use Rattle.blocks.proofs.Halves.{value_below}
 use Rattle.forward.specs.Forward.{Feistel}
-use Rattle.forward.proofs.LentBytes.{hash-one}
+use Rattle.forward.proofs.LentBytes.{hash_one}
 use Rattle.forward.proofs.feistel.Goals as goal
 
 pub returns : goal.returns
@@ -24,9 +24,9 @@ returns c =
     let p = x in
     let a = p.args in
     -- τ' is a block
-    let key_below : IsBlock (value a.tau_prime) = value-below a.tau_prime (search rules) (search rules) in
+    let key_below : IsBlock (value a.tau_prime) = value_below a.tau_prime (search rules) (search rules) in
     let one : (X : ℕ) → power_sum (value a.tau_prime) (X ∷ []) ≡ X · value a.tau_prime =
-    λ X. hash-one (value a.tau_prime) X key_below in
+    λ X. hash_one (value a.tau_prime) X key_below in
     simp (
       c.xor-b1.ensures,
       p2.product-2.ensures,

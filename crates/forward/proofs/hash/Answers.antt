@@ -1,5 +1,5 @@
 -- β and the hash of the part behind are added to both blocks: formula (1).
-use Rattle.strings.proofs.Place.{part-behind}
+use Rattle.strings.proofs.Place.{part_behind}
 use Rattle.forward.specs.Forward.{Υ}
 use Rattle.forward.proofs.hash.Goals as goal
 
@@ -14,5 +14,5 @@ returns c =
       first.xor-2.ensures,
       first.xor.ensures,
       z.power_sum-z.ensures,
-      part-behind 32 z.args.message.now,
+      part_behind 32 z.args.message.now,
     )

@@ -3,8 +3,8 @@ use mathlib.Core.Path.{sym, ap, ◌∙◌}
 use lib.ListN.{length}
 use Rattle.strings.specs.Call.{number_of}
 use Rattle.strings.specs.declared.refusal.Refusal.TheVariants.{TooShort}
-use Rattle.strings.proofs.OnMessages.{admitted-behind-key, done-behind-key}
-use Rattle.blocks.proofs.Blocks.{block-whole}
+use Rattle.strings.proofs.OnMessages.{admitted_behind_key, done_behind_key}
+use Rattle.blocks.proofs.Blocks.{block_whole}
 use Rattle.hch.specs.Hch.{deciphered_by}
 use Rattle.hch.specs.Expanded.{hch_under}
 use Rattle.hch.proofs.Theorems.{under-cipher}
@@ -14,7 +14,7 @@ pub decipher_message-requires : goal.decipher_message-requires
 decipher_message-requires c =
     let args = c.args in
     -- what the tests tell where the work is to be done
-    let a = admitted-behind-key 16 TooShort args.tweak.now args.ciphertext.now (ap number_of (sym c.judge-answer.ensures ∙ c.in-Done.is)) in
+    let a = admitted_behind_key 16 TooShort args.tweak.now args.ciphertext.now (ap number_of (sym c.judge-answer.ensures ∙ c.in-Done.is)) in
     (a.at_least, a.at_most)
 
 pub returns-in-Done : goal.returns-in-Done
@@ -23,8 +23,8 @@ returns-in-Done c =
     let args = c.args in
     let tweak = args.tweak.now in
     let message = args.ciphertext.now in
-    let a = admitted-behind-key 16 TooShort tweak message (ap number_of (sym c.judge-answer.ensures ∙ c.in-Done.is)) in
-    let done = done-behind-key (hch_under args.expanded) 16 TooShort tweak message _ c.judge-answer.ensures c.in-Done.is
-    (rw (c.decipher_message.ensures, c.read.ensures, block-whole tweak a.tweak-length))
+    let a = admitted_behind_key 16 TooShort tweak message (ap number_of (sym c.judge-answer.ensures ∙ c.in-Done.is)) in
+    let done = done_behind_key (hch_under args.expanded) 16 TooShort tweak message _ c.judge-answer.ensures c.in-Done.is
+    (rw (c.decipher_message.ensures, c.read.ensures, block_whole tweak a.tweak-length))
     (under-cipher args.expanded tweak (length message) (a.tweak-length, λ i. (c.type_inv.tweak i).fits) a.at_least) in
     record { value = done.0; ciphertext_after = done.1.0; cipher_under = done.1.1 }

@@ -1,5 +1,5 @@
 -- The two sums and the keyed sum of the part behind are formula (1).
-use Rattle.strings.proofs.Place.{part-behind}
+use Rattle.strings.proofs.Place.{part_behind}
 use Rattle.hch.specs.Hch.{H}
 use Rattle.hch.proofs.hash.Goals as goal
 
@@ -10,5 +10,5 @@ returns c =
       c.xor-2.ensures,
       c.power_sum.ensures,
       c.xor.ensures,
-      part-behind 16 c.args.message.now,
+      part_behind 16 c.args.message.now,
     )

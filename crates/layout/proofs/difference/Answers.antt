@@ -3,7 +3,7 @@ use Prim.Native.Nat.{◌+◌, ◌-◌}
 use mathlib.Core.Path.{◌≡◌}
 use native.Mathlib.Omega.{arith}
 use Rattle.strings.specs.Bytes.{bytes, equal}
-use Rattle.strings.proofs.Place.{rest-next}
+use Rattle.strings.proofs.Place.{rest_next}
 use Rattle.layout.proofs.Comparison.{differ_next}
 use Rattle.layout.proofs.difference.Goals as goal
 
@@ -22,7 +22,7 @@ loop-i-preserved c =
     let back : here + 1 ≡ a.at + l.i = omega arith in
     let more : a.n - (l.i - 1) ≡ a.n - l.i + 1 = omega arith in (
       omega arith,
-      rw (more, l.invariant.1, rest-next),
+      rw (more, l.invariant.1, rest_next),
       rw (more, l.invariant.1)
           (differ_next a.s.now here (a.n - l.i) a.value l.differ (omega (arith, c.requires)) (rw back l.invariant.2)),
     )

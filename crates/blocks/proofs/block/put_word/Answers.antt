@@ -1,9 +1,9 @@
 -- Byte by byte.
-use Rattle.blocks.proofs.BlockWords.{word-written}
+use Rattle.blocks.proofs.BlockWords.{word_written}
 use Rattle.blocks.proofs.block.put_word.Goals as goal
 
 pub returns : goal.returns
 returns c =
     let a = c.args in
     rw (c.byte.ensures, c.byte-2.ensures, c.byte-3.ensures, c.byte-4.ensures)
-    (word-written a.at a.w a.out.now)
+    (word_written a.at a.w a.out.now)

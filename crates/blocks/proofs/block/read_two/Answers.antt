@@ -2,12 +2,11 @@
 use mathlib.Core.Path.{sym, ap, ◌∙◌}
 use lib.ListN.{drop}
 use Rattle.strings.specs.Bytes.{number}
-use Rattle.blocks.proofs.Blocks.{block-padded}
+use Rattle.blocks.proofs.Blocks.{block_padded}
 use Rattle.blocks.proofs.block.read_two.Goals as goal
 
-
 pub returns-clause-first_value : goal.returns-clause-first_value
-returns-clause-first_value c = c.from_words.ensures ∙ ap number c.words_at.ensures ∙ sym (block-padded c.args.s.now)
+returns-clause-first_value c = c.from_words.ensures ∙ ap number c.words_at.ensures ∙ sym (block_padded c.args.s.now)
 
 pub returns-clause-second_value : goal.returns-clause-second_value
-returns-clause-second_value c = c.from_words-2.ensures ∙ ap number c.words_at-2.ensures ∙ sym (block-padded (drop 16 c.args.s.now))
+returns-clause-second_value c = c.from_words-2.ensures ∙ ap number c.words_at-2.ensures ∙ sym (block_padded (drop 16 c.args.s.now))

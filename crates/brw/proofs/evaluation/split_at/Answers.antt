@@ -9,7 +9,7 @@ use borrow.Author.Rules.{rules}
 use Rattle.brw.specs.Brw.{largest_power}
 use Rattle.brw.specs.Inner.{exponent_of}
 use Rattle.brw.proofs.Largest.{between}
-use Rattle.brw.proofs.Squares.{largest-by-zeros}
+use Rattle.brw.proofs.Squares.{largest_by_zeros}
 use Rattle.brw.proofs.evaluation.split_at.Goals as goal
 
 -- The number of blocks, as the code has it, and the place of its highest 1.
@@ -39,13 +39,13 @@ known l h m =
     let fits : n < 2 ^ 64 = omega arith in
     let b = between n some in
     let t = leading_top 64 (counted l) (rw e some) (rw e fits) in
-    let p : 2 ^ highest l ≡ largest_power n = rw e (largest-by-zeros n some fits) in
+    let p : 2 ^ highest l ≡ largest_power n = rw e (largest_by_zeros n some fits) in
     record {
       zeros = omega (arith, t.1);
       small = omega arith;
       power_of = p;
       shifted = rw (one-mul, p) (mod-eq_of_lt (lt_of_le_of_lt b.not_above fits));
-      positive = omega (arith, b.twice-above, some);
+      positive = omega (arith, b.twice_above, some);
       within = b.not_above;
     }
 

@@ -14,10 +14,10 @@ use Rattle.blocks.specs.Blocks.{IsBlock}
 use Rattle.blocks.specs.Field.{power}
 use Rattle.blocks.specs.BlockField.{◌·◌}
 use Rattle.blocks.specs.Inner.{value}
-use Rattle.blocks.proofs.Halves.{value-below}
+use Rattle.blocks.proofs.Halves.{value_below}
 use Rattle.brw.specs.Inner.{power_at, prepared}
-use Rattle.brw.proofs.Squares.{first-power, squared}
-use Rattle.brw.proofs.Words.{put, put_same, put_other, none_yet, prepared_here, not_prepared, past-eight}
+use Rattle.brw.proofs.Squares.{first_power, squared}
+use Rattle.brw.proofs.Words.{put, put_same, put_other, none_yet, prepared_here, not_prepared, past_eight}
 use Rattle.brw.proofs.powers.prepare.Invariants.{Inv}
 use Rattle.brw.proofs.powers.prepare.Goals as goal
 
@@ -29,7 +29,7 @@ first t n high low b e = record {
   size = refl;
   from_one = le_refl 1;
   to_eight = omega arith;
-  is_square = sym (first-power t b);
+  is_square = sym (first_power t b);
   done = done;
   rest = λ j h. put_other (replicate 16 0) 0 high low j (λ k. absurd (omega (arith, k, h))) ∙ none_yet j;
 }
@@ -82,7 +82,7 @@ shifted i h = rw one-mul (mod-eq_of_lt (pow-lt {j = 64} (omega (arith, h))))
 
 pub loop-i-init : goal.loop-i-init
 unfolding value
-loop-i-init c = first (value c.args.t) c.args.n c.args.t.hi c.args.t.lo (value-below c.args.t (search rules) (search rules)) refl
+loop-i-init c = first (value c.args.t) c.args.n c.args.t.hi c.args.t.lo (value_below c.args.t (search rules) (search rules)) refl
 
 pub loop-i-preserved : goal.loop-i-preserved
 unfolding value
@@ -102,4 +102,4 @@ returns-else-i-n c =
 pub returns-after-loop-i : goal.returns-after-loop-i
 returns-after-loop-i c =
     let l = c.loop-i in
-    ended (value c.args.t) c.args.n l.powers (value l.square) l.i l.invariant (λ j h. past-eight (value c.args.t) c.args.n j (le_trans c.loop-i-test.false h))
+    ended (value c.args.t) c.args.n l.powers (value l.square) l.i l.invariant (λ j h. past_eight (value c.args.t) c.args.n j (le_trans c.loop-i-test.false h))

@@ -6,7 +6,7 @@ use native.Mathlib.Omega.{arith}
 use lib.ListN.{length, length-append, length-take}
 use Rattle.strings.specs.Inner.{overwrite}
 use Rattle.line.specs.Line.{decimal, refusal, Written}
-use Rattle.line.proofs.Written.{written-front, front-more}
+use Rattle.line.proofs.Written.{written_front, front_more}
 use Rattle.line.proofs.answering.refuse.Goals as goal
 
 -- three parts, of which the digits have k characters
@@ -18,8 +18,8 @@ three number k out e h room f s t =
     let no : List ℕ = 110 ∷ 111 ∷ 32 ∷ [] in
     let long : length (no ++ decimal number) ≡ 3 + k = rw (length-append no (decimal number), e) in
     let all : length ((no ++ decimal number) ++ 10 ∷ []) ≡ 4 + k = rw (length-append (no ++ decimal number), long) (omega arith) in
-    written-front (refusal number) (sym all)
-    (rw (t, s, f, front-more no (decimal number) out, front-more (no ++ decimal number) (10 ∷ []) out (sym long))) (omega arith)
+    written_front (refusal number) (sym all)
+    (rw (t, s, f, front_more no (decimal number) out, front_more (no ++ decimal number) (10 ∷ []) out (sym long))) (omega arith)
 
 pub returns : goal.returns
 returns c =

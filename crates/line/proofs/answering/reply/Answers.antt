@@ -9,7 +9,7 @@ use Rattle.text.specs.Hex.{hex}
 use Rattle.text.specs.Inner.{fitting, encoded_in}
 use Rattle.text.proofs.Digits.{length-hex}
 use Rattle.line.specs.Line.{Written}
-use Rattle.line.proofs.Written.{written-front, front-more, encoded_front, written_as, reply-done, reply-refused}
+use Rattle.line.proofs.Written.{written_front, front_more, encoded_front, written_as, reply_done, reply_refused}
 use Rattle.line.proofs.answering.reply.Goals as goal
 
 -- the digits, and a line feed
@@ -19,16 +19,16 @@ two n work out h room e f s =
     let front = encoded_front work out (omega arith) in
     let k : n ≡ length (hex work) = e ∙ front.0 in
     let all : n + 1 ≡ length (hex work ++ 10 ∷ []) = rw (length-append (hex work), k) in
-    written-front (hex work ++ 10 ∷ []) all (rw (s, f, front.1) (front-more (hex work) (10 ∷ []) out k)) (omega (arith, length-hex work))
+    written_front (hex work ++ 10 ∷ []) all (rw (s, f, front.1) (front_more (hex work) (10 ∷ []) out k)) (omega (arith, length-hex work))
 
 pub returns-then-number-gt0 : goal.returns-then-number-gt0
 returns-then-number-gt0 c =
     let args = c.args in
-    written_as (reply-refused args.number args.left.now c.if-number-gt0.true) c.refuse.ensures
+    written_as (reply_refused args.number args.left.now c.if-number-gt0.true) c.refuse.ensures
 
 pub returns : goal.returns
 returns c =
     let args = c.args in
     let short = c.requires.left_len_bound (omega (arith, c.if-number-gt0.false)) in
-    written_as (reply-done args.number args.left.now c.if-number-gt0.false)
+    written_as (reply_done args.number args.left.now c.if-number-gt0.false)
     (two c.encode-n.result args.left.now args.out.now short (omega arith) c.encode-n.ensures.value c.encode-n.ensures.out_after c.write.ensures)

@@ -5,14 +5,14 @@ use mathlib.Core.Bool.{true, false}
 use borrow.Author.Tests.{eq-eqb}
 use lib.ListN.{length}
 use Rattle.strings.specs.Bytes.{Bytes}
-use Rattle.strings.proofs.Refusals.{refusal-leaves}
+use Rattle.strings.proofs.Refusals.{refusal_leaves}
 use Rattle.schemes.specs.Schemes.{scheme_under}
 use Rattle.schemes.proofs.Names.{every_key}
-use Rattle.layout.proofs.Check.{read-passed, read_failed}
+use Rattle.layout.proofs.Check.{read_passed, read_failed}
 use Rattle.pack.specs.Opening.{failure, deciphered_block}
 use Rattle.pack.specs.Inner.{on_block}
 use Rattle.pack.specs.declared.opening.Opened.TheVariants.{Done, Refused}
-use Rattle.pack.proofs.OneBlock.{Openable, by-check, given_back, opens}
+use Rattle.pack.proofs.OneBlock.{Openable, by_check, given_back, opens}
 use Rattle.pack.proofs.opening.open_block.Goals as goal
 
 pub returns-in_default : goal.returns-in_default
@@ -25,17 +25,17 @@ returns-in_default c =
     let place = a.place in
     let size = c.requires.0 in
     let B = deciphered_block S [] pack place C in
-    let o : Openable S [] place C = record { is_key_lem = every_key a.name a.expanded []; block-length = size; place_limit = c.requires.1 } in
+    let o : Openable S [] place C = record { is_key_lem = every_key a.name a.expanded []; block_length = size; place_limit = c.requires.1 } in
     let cipher = c.decipher.ensures.cipher_at size in
     let bytes : Bytes C = λ i. (c.slice_known-1.given i).fits in
     let plain : c.decipher.new.sealed ≡ B = rw (c.decipher.ensures.sealed_after, eq-eqb (length C) 512 size) in
-    let long : length B ≡ 512 = (cipher.inverse-keeps C (size, bytes)).0 in
+    let long : length B ≡ 512 = (cipher.inverse_keeps C (size, bytes)).0 in
     let failed = read_failed pack place B (sym c.in_default.is ∙ rw plain at c.read-verdict.ensures) in
     let left : c.encipher.new.block ≡ C =
     rw (c.encipher.ensures.block_after, plain, eq-eqb (length B) 512 long) (given_back S [] pack place cipher C (size, bytes)) in
     let why : c.failure.result ≡ failure C = rw left at c.failure.ensures in
-    opens S [] pack place cipher C _ (Refused _) bytes (ap Refused why ∙ sym (by-check S [] pack place C o false failed))
-    (left ∙ refusal-leaves c.failure.result B C)
+    opens S [] pack place cipher C _ (Refused _) bytes (ap Refused why ∙ sym (by_check S [] pack place C o false failed))
+    (left ∙ refusal_leaves c.failure.result B C)
 
 pub returns : goal.returns
 unfolding deciphered_block on_block
@@ -47,9 +47,9 @@ returns c =
     let place = a.place in
     let size = c.requires.0 in
     let B = deciphered_block S [] pack place C in
-    let o : Openable S [] place C = record { is_key_lem = every_key a.name a.expanded []; block-length = size; place_limit = c.requires.1 } in
+    let o : Openable S [] place C = record { is_key_lem = every_key a.name a.expanded []; block_length = size; place_limit = c.requires.1 } in
     let cipher = c.decipher.ensures.cipher_at size in
     let bytes : Bytes C = λ i. (c.slice_known-1.given i).fits in
     let plain : c.decipher.new.sealed ≡ B = rw (c.decipher.ensures.sealed_after, eq-eqb (length C) 512 size) in
-    let passed = read-passed pack place B c.in-Passed.u (sym c.in-Passed.is ∙ rw plain at c.read-verdict.ensures) in
-    opens S [] pack place cipher C _ (Done _) bytes (rw passed.1 (sym (by-check S [] pack place C o true passed.0))) plain
+    let passed = read_passed pack place B c.in-Passed.u (sym c.in-Passed.is ∙ rw plain at c.read-verdict.ensures) in
+    opens S [] pack place cipher C _ (Done _) bytes (rw passed.1 (sym (by_check S [] pack place C o true passed.0))) plain

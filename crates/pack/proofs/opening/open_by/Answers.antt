@@ -6,7 +6,7 @@ use Rattle.schemes.specs.Schemes.{scheme_of}
 use Rattle.layout.specs.Layout.{tweak}
 use Rattle.layout.proofs.Check.{tweak_of_length}
 use Rattle.pack.proofs.OneBlock.{no_key, opens}
-use Rattle.pack.proofs.Same.{same-cipher, same-deciphered, same_answer}
+use Rattle.pack.proofs.Same.{same_cipher, same_deciphered, same_answer}
 use Rattle.pack.proofs.opening.open_by.Goals as goal
 
 pub returns-then-expansion : goal.returns-then-expansion
@@ -16,11 +16,11 @@ returns-then-expansion c =
     let C = a.block.now in
     let k : (scheme_of a.name).is_key key ≡ true = sym c.expand-expansion.ensures.is_key_value ∙ c.if-expansion.true in
     let same = c.expand-expansion.ensures.same k in
-    let cipher = same-cipher same 16 512 (c.expand-expansion.ensures.by_index 512 (omega arith)) in
+    let cipher = same_cipher same 16 512 (c.expand-expansion.ensures.by_index 512 (omega arith)) in
     let e = c.open_with.ensures in
     let opened =
     opens (scheme_of a.name) key a.pack a.place (cipher (tweak a.pack a.place) (tweak_of_length a.pack a.place)) C _ _
-    (λ i. (c.slice_known-1.given i).fits) (e.value ∙ same_answer same a.pack a.place C) (rw (same-deciphered same a.pack a.place C) at e.block_after) in
+    (λ i. (c.slice_known-1.given i).fits) (e.value ∙ same_answer same a.pack a.place C) (rw (same_deciphered same a.pack a.place C) at e.block_after) in
     record { value = opened.answered; block_after = opened.left; meaning = opened.meaning }
 
 pub returns : goal.returns

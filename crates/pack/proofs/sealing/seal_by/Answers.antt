@@ -15,7 +15,7 @@ use Rattle.layout.proofs.Check.{both_fit, length_plain, tweak_of_length}
 use Rattle.pack.specs.Inner.{on_block}
 use Rattle.pack.specs.Sealing.{seal as sealed_by, WithinLimits, answer_of}
 use Rattle.pack.proofs.OneBlock.{Sealable, sealable, one_block}
-use Rattle.pack.proofs.Same.{same-cipher}
+use Rattle.pack.proofs.Same.{same_cipher}
 use Rattle.pack.proofs.sealing.seal_by.Goals as goal
 
 -- What the tests tell where the call is done.
@@ -38,11 +38,11 @@ returns-in-Done c =
     } in
     let same = c.expand-expansion.ensures.same s.is_key_lem in
     let plain : c.write.new.block ≡ plain_block payload a.pack a.place =
-    rw (c.write.ensures, both_fit payload a.block.now s.payload_length s.block-length) in
+    rw (c.write.ensures, both_fit payload a.block.now s.payload_length s.block_length) in
     let size = length_plain payload a.pack a.place s.payload_length in
     let left : c.encipher.new.block ≡ sealed_by (scheme_of a.name) key payload a.pack a.place =
     rw (c.encipher.ensures.block_after, plain, eq-eqb _ 512 size, same.enciphers) in
-    let cipher = same-cipher same 16 512 (c.expand-expansion.ensures.by_index 512 (omega arith)) (tweak a.pack a.place) (tweak_of_length a.pack a.place) in
+    let cipher = same_cipher same 16 512 (c.expand-expansion.ensures.by_index 512 (omega arith)) (tweak a.pack a.place) (tweak_of_length a.pack a.place) in
     record {
       value = c.judge-answer.ensures;
       block_after = rw (done, left);

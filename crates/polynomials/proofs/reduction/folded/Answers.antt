@@ -7,7 +7,7 @@ use lib.Dec.{lit<}
 use Rattle.strings.specs.Xor.{◌⊕◌}
 use Rattle.blocks.specs.Inner.{value}
 use Rattle.polynomials.specs.Inner.{carryless}
-use Rattle.blocks.proofs.Halves.{value-below}
+use Rattle.blocks.proofs.Halves.{value_below}
 use Rattle.polynomials.proofs.Modulo.{folded_twice}
 use Rattle.polynomials.proofs.reduction.folded.Goals as goal
 
@@ -16,7 +16,7 @@ unfolding value
 returns c =
     let h = c.args.h in
     let v : ℕ = value h in
-    let below : v < 2 ^ 128 = value-below h (search rules) (search rules) in
+    let below : v < 2 ^ 128 = value_below h (search rules) (search rules) in
     let low : value c.spread.result ≡ carryless 128 v 0x87 % 2 ^ 128 = c.spread.ensures in
     let spilt : 0 + c.spilt.result ≡ carryless 128 v 0x87 / 2 ^ 128 =
     zero-add c.spilt.result ∙ c.spilt.ensures in

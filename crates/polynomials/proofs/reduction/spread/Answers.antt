@@ -5,7 +5,7 @@ use borrow.Author.Rules.{rules}
 use lib.Dec.{lit<}
 use Rattle.strings.specs.Xor.{◌⊕◌}
 use Rattle.blocks.specs.Inner.{value}
-use Rattle.blocks.proofs.Halves.{value-below}
+use Rattle.blocks.proofs.Halves.{value_below}
 use Rattle.polynomials.proofs.Modulo.{spread_low}
 use Rattle.polynomials.proofs.reduction.spread.Goals as goal
 
@@ -13,7 +13,7 @@ pub returns : goal.returns
 returns c =
     let h = c.args.h in
     let v : ℕ = value h in
-    let below : v < 2 ^ 128 = value-below h (search rules) (search rules) in
+    let below : v < 2 ^ 128 = value_below h (search rules) (search rules) in
     let c₂ = c in
     let c₁ = c₂ in
     let one : value c₁.shifted.result ≡ v * 2 ^ 1 % 2 ^ 128 = c₁.shifted.ensures in

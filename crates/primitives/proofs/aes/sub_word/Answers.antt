@@ -2,11 +2,11 @@
 use Rattle.std.proofs.Common.{◌≡◌, ℕ, List, get_or, ◌∙◌}
 use Rattle.primitives.specs.Inner.{Table}
 use Rattle.primitives.specs.Aes.{s_box, word, byte_of, sub_word}
-use Rattle.primitives.proofs.Words.{byte_of-below}
+use Rattle.primitives.proofs.Words.{byte_of_below}
 use Rattle.primitives.proofs.aes.sub_word.Goals as goal
 
 looked_up : (t : List ℕ) → Table s_box t → (w i : ℕ) {b l : ℕ} → b ≡ byte_of w i → l ≡ get_or t b 0 → l ≡ s_box (byte_of w i)
-looked_up t h w i e f = f ∙ rw e (h.entry (byte_of w i) (byte_of-below w i))
+looked_up t h w i e f = f ∙ rw e (h.entry (byte_of w i) (byte_of_below w i))
 
 pub returns : goal.returns
 unfolding sub_word word byte_of

@@ -5,10 +5,10 @@ use Rattle.blocks.specs.Blocks.{first_block, blocks}
 use Rattle.blocks.specs.BlockField.{◌·◌}
 use Rattle.blocks.specs.Inner.{horner, value}
 use Rattle.strings.proofs.Xor.{xor_below}
-use Rattle.strings.proofs.Bytes.{below-drop}
-use Rattle.strings.proofs.Place.{part-behind}
-use Rattle.blocks.proofs.Blocks.{block-below}
-use Rattle.blocks.proofs.Halves.{value-below}
+use Rattle.strings.proofs.Bytes.{below_drop}
+use Rattle.strings.proofs.Place.{part_behind}
+use Rattle.blocks.proofs.Blocks.{block_below}
+use Rattle.blocks.proofs.Halves.{value_below}
 use Rattle.blocks.proofs.Horner.{horner-next, two_steps}
 use Rattle.blocks.proofs.Ring.{ring_of_blocks}
 use Rattle.primitives.proofs.field.pairs.Goals as goal
@@ -48,14 +48,14 @@ loop-at-preserved c =
     let at : ℕ = l.at in
     let S : ℕ = value l.sum in
     let R : ℕ = value c.args.r in
-    let part : take (length s - at) (drop at s) ≡ drop at s = part-behind at s in
+    let part : take (length s - at) (drop at s) ≡ drop at s = part_behind at s in
     let step : value c.two_steps-sum.result ≡ (S ⊕ first_block (drop at s)) · (R · R) ⊕ first_block (drop (at + 16) s) · R =
     rw (part, drop-drop 16 at s, c.product-r2.ensures) at c.two_steps-sum.ensures in
-    let hA : first_block (drop at s) < 2 ^ 128 = block-below (drop at s) (below-drop at s (λ i. (c.type_inv.s i).fits)) in
-    let factor_below : R < 2 ^ 128 = value-below c.args.r (search rules) (search rules) in
+    let hA : first_block (drop at s) < 2 ^ 128 = block_below (drop at s) (below_drop at s (λ i. (c.type_inv.s i).fits)) in
+    let factor_below : R < 2 ^ 128 = value_below c.args.r (search rules) (search rules) in
     record {
       left = rw step (next-two R S at s factor_below (xor_below 128 l.invariant.below hA) (omega arith) l.invariant.left);
-      below = value-below c.two_steps-sum.result (search rules) (search rules);
+      below = value_below c.two_steps-sum.result (search rules) (search rules);
       within = omega arith;
       even = omega arith;
     }

@@ -4,9 +4,9 @@ use Rattle.strings.specs.Xor.{◌⊕◌}
 use Rattle.blocks.specs.Blocks.{first_block, blocks}
 use Rattle.blocks.specs.BlockField.{◌·◌}
 use Rattle.blocks.specs.Inner.{horner, value}
-use Rattle.strings.proofs.Place.{part-behind}
-use Rattle.blocks.proofs.Blocks.{blocks_nil, blocks-below}
-use Rattle.blocks.proofs.Halves.{value-below}
+use Rattle.strings.proofs.Place.{part_behind}
+use Rattle.blocks.proofs.Blocks.{blocks_nil, blocks_below}
+use Rattle.blocks.proofs.Halves.{value_below}
 use Rattle.blocks.proofs.Horner.{horner-next, horner_rule}
 use Rattle.blocks.proofs.Ring.{ring_of_blocks}
 use Rattle.primitives.proofs.field.power_sum.Goals as goal
@@ -19,7 +19,7 @@ loop-at-preserved c =
     let args = test.args in
     let s = args.s.now in
     let R : ℕ = value args.r in
-    let next : value read.read.result ≡ first_block (drop l.at s) = rw (part-behind l.at s) at read.read.ensures in
+    let next : value read.read.result ≡ first_block (drop l.at s) = rw (part_behind l.at s) at read.read.ensures in
     let turn : value c.product-sum.result ≡ (value l.sum ⊕ first_block (drop l.at s)) · R =
     c.product-sum.ensures ∙ ap (λ (x : ℕ). x · R) (c.xor.ensures ∙ ap (λ (x : ℕ). value l.sum ⊕ x) next) in
     rw turn (sym (horner-next ◌·◌ R (value l.sum) l.at s test.loop-at-test.true) ∙ l.invariant)
@@ -32,5 +32,5 @@ returns c =
     let R = value args.r in
     let done : blocks (drop c.loop-at.at s) ≡ [] = rw (drop_of_length-le s c.loop-at-test.false) blocks_nil in
     (rw done at c.loop-at.invariant)
-    ∙ horner_rule ring_of_blocks R (value-below args.r (search rules) (search rules)) (blocks s)
-    (blocks-below s (λ i. (c.shared_slice_known-1.given i).fits))
+    ∙ horner_rule ring_of_blocks R (value_below args.r (search rules) (search rules)) (blocks s)
+    (blocks_below s (λ i. (c.shared_slice_known-1.given i).fits))

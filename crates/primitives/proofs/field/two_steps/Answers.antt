@@ -6,8 +6,8 @@ use Rattle.blocks.specs.Blocks.{first_block}
 use Rattle.blocks.specs.BlockField.{◌·◌}
 use Rattle.blocks.specs.Inner.{value}
 use Rattle.polynomials.specs.Inner.{carryless, reduction}
-use Rattle.blocks.proofs.Halves.{value-below}
-use Rattle.polynomials.proofs.Modulo.{two-reduced}
+use Rattle.blocks.proofs.Halves.{value_below}
+use Rattle.polynomials.proofs.Modulo.{two_reduced}
 use Rattle.primitives.proofs.field.two_steps.Goals as goal
 
 pub returns : goal.returns
@@ -20,14 +20,14 @@ returns c =
     let s = args.s.now in
     let R : ℕ = value args.r in
     let R² : ℕ = value args.r2 in
-    let first_below : value c.xor.result < 2 ^ 128 = value-below c.xor.result (search rules) (search rules) in
-    let square_below : R² < 2 ^ 128 = value-below args.r2 (search rules) (search rules) in
-    let second_below : value c.read_two-next.result.second < 2 ^ 128 = value-below c.read_two-next.result.second (search rules) (search rules) in
-    let factor_below : R < 2 ^ 128 = value-below args.r (search rules) (search rules) in
+    let first_below : value c.xor.result < 2 ^ 128 = value_below c.xor.result (search rules) (search rules) in
+    let square_below : R² < 2 ^ 128 = value_below args.r2 (search rules) (search rules) in
+    let second_below : value c.read_two-next.result.second < 2 ^ 128 = value_below c.read_two-next.result.second (search rules) (search rules) in
+    let factor_below : R < 2 ^ 128 = value_below args.r (search rules) (search rules) in
     let A : ℕ = value sum.xor.result in
     let B : ℕ = value next.read_two-next.result.second in
     let eA : A ≡ value args.sum ⊕ first_block s = sum.xor.ensures ∙ ap (λ (x : ℕ). value args.sum ⊕ x) next.read_two-next.ensures.first_value in
     let w = two.two_products.result in
     let both : value w.high * 2 ^ 128 + value w.low ≡ carryless 128 A R² ⊕ carryless 128 B R = two.two_products.ensures in
-    c.reduced.ensures ∙ ap (reduction 128 0x87) both ∙ two-reduced 128 0x87 (lit< tt) (lit< tt) A R² B R first_below square_below second_below factor_below
+    c.reduced.ensures ∙ ap (reduction 128 0x87) both ∙ two_reduced 128 0x87 (lit< tt) (lit< tt) A R² B R first_below square_below second_below factor_below
     ∙ ap₂ ◌⊕◌ (ap (λ (x : ℕ). x · R²) eA) (ap (λ (x : ℕ). x · R) next.read_two-next.ensures.second_value)

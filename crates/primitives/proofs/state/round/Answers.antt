@@ -2,7 +2,7 @@
 use Rattle.std.proofs.Common.{ℕ, sym, ap, ◌∙◌}
 use Rattle.primitives.specs.Aes.{◌•◌, s_box, shift_rows, add_round_key, round_key}
 use Rattle.primitives.specs.Inner.{of_columns, mixing}
-use Rattle.primitives.proofs.Mixing.{columns_words, sub-mixed}
+use Rattle.primitives.proofs.Mixing.{columns_words, sub_mixed}
 use Rattle.primitives.proofs.state.round.Goals as goal
 
 pub returns : goal.returns
@@ -15,4 +15,4 @@ returns c =
     (c.mix_columns.ensures own next s_box s_box c.requires.0
     ∙ ap (mixing own next s_box s_box)
     (columns_words c.from_bytes.result ∙ c.from_bytes.ensures ∙ c.shift_rows.ensures ∙ ap shift_rows (c.to_bytes.ensures ∙ sym (columns_words a.w)))
-    ∙ sub-mixed (of_columns a.w))
+    ∙ sub_mixed (of_columns a.w))

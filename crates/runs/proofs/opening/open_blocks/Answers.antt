@@ -8,7 +8,7 @@ use lib.ListN.{length, length-take}
 use Rattle.strings.specs.Bytes.{Bytes}
 use Rattle.strings.specs.Call.{left_by}
 use Rattle.strings.specs.declared.refusal.Refusal.{Refusal}
-use Rattle.strings.proofs.Refusals.{refusal-leaves}
+use Rattle.strings.proofs.Refusals.{refusal_leaves}
 use Rattle.primitives.specs.declared.aes.ExpandedKey.{ExpandedKey}
 use Rattle.hch.specs.Expanded.{hch_under}
 use Rattle.layout.specs.Finding.{block_count}
@@ -78,7 +78,7 @@ returns-in-Failed c =
       in_turn_lem = sym failed ∙ opened.answered;
       left = closed_again S [] c.requires.0 a.pack a.first p.block run (λ k. (c.slice_known-1.given k).fits) (omega (arith, p.there))
           {k = 512 * (c.in-Failed.place - a.first)} (omega (arith, p.at))
-          (left_at a.expanded a.pack a.first run opened failed) c.encipher_blocks.ensures ∙ refusal-leaves c.in-Failed.field-0 (deciphered_run S [] a.pack a.first run) run;
+          (left_at a.expanded a.pack a.first run opened failed) c.encipher_blocks.ensures ∙ refusal_leaves c.in-Failed.field-0 (deciphered_run S [] a.pack a.first run) run;
     }
 
 pub returns-in_default : goal.returns-in_default

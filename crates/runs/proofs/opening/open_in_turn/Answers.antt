@@ -12,7 +12,7 @@ use Rattle.pack.specs.Opening.{number_of as number_of_block, answer_of as answer
 use Rattle.runs.specs.Opening.{BlockOpens}
 use Rattle.runs.specs.Inner.{CipherUnder, walked}
 use Rattle.runs.proofs.Blocks.{walked_none, walked_block, turn, part_same, below_more}
-use Rattle.runs.proofs.Answers.{all-open, first-refused, left_back}
+use Rattle.runs.proofs.Answers.{all_open, first_refused, left_back}
 use Rattle.runs.proofs.Sizes.{deciphered_of_length}
 use Rattle.runs.proofs.opening.open_in_turn.Goals as goal
 use Rattle.runs.proofs.opening.open_in_turn.Invariants.{one}
@@ -43,7 +43,7 @@ returns-in-Refused c =
     let back : c.open_with-opened.new.block ≡ take (512 * l.i + 512 - 512 * l.i) (drop (512 * l.i) l.run) =
     c.open_with-opened.ensures.block_after ∙ left_back refused _ _ in
     record {
-      answered = sym (first-refused S [] a.pack a.first run (block_count run) l.i below l.invariant.1 shut);
+      answered = sym (first_refused S [] a.pack a.first run (block_count run) l.i below l.invariant.1 shut);
       left = part_same (512 * l.i) (512 * l.i + 512 - 512 * l.i) back ∙ l.invariant.0 ∙ ap (walked f run) (omega arith);
     }
 
@@ -77,6 +77,6 @@ returns c =
     let all : l.i ≡ n = omega (arith, l.invariant.2, l.invariant.3, c.loop-i-test.false, c.requires.1.whole) in
     let f = one a.expanded a.pack a.first in
     record {
-      answered = sym (all-open (hch_under a.expanded) [] a.pack a.first run n (rw all at l.invariant.1));
+      answered = sym (all_open (hch_under a.expanded) [] a.pack a.first run n (rw all at l.invariant.1));
       left = l.invariant.0 ∙ ap (walked f run) all;
     }

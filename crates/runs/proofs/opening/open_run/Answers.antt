@@ -8,13 +8,13 @@ use lib.ListN.{length}
 use Rattle.strings.specs.Bytes.{Bytes}
 use Rattle.strings.specs.Call.{number_of as number_of_tests, left_by}
 use Rattle.strings.specs.Cipher.{TweakableCipher, Scheme, Same}
-use Rattle.strings.proofs.Refusals.{refusal-leaves}
+use Rattle.strings.proofs.Refusals.{refusal_leaves}
 use Rattle.hch.specs.Hch.{hch}
 use Rattle.hch.specs.Expanded.{hch_under}
 use Rattle.layout.specs.Layout.{used}
-use Rattle.layout.proofs.Parts.{whole-blocks}
+use Rattle.layout.proofs.Parts.{whole_blocks}
 use Rattle.layout.specs.Finding.{block_count}
-use Rattle.pack.proofs.Same.{same-cipher}
+use Rattle.pack.proofs.Same.{same_cipher}
 use Rattle.runs.specs.Run.{blockwise}
 use Rattle.runs.specs.Opening.{number_of, deciphered_run, used_lengths, in_turn, answer_of}
 use Rattle.runs.specs.Inner.{OpensBlocks}
@@ -22,7 +22,7 @@ use Rattle.runs.specs.declared.opening.RunOpened.{RunOpened}
 use Rattle.runs.specs.declared.opening.RunOpened.TheVariants.{Done}
 use Rattle.runs.proofs.Answers.{AllOpen, FailsAt, in_turn_lem}
 use Rattle.runs.proofs.Limits.{Admitted, openable, no_test_holds, in_range}
-use Rattle.runs.proofs.Meaning.{means, refused-answer, refused-meaning}
+use Rattle.runs.proofs.Meaning.{means, refused_answer, refused_meaning}
 use Rattle.runs.proofs.Same.{same_in_turn, same_deciphered_run}
 use Rattle.runs.proofs.Sizes.{deciphered-length, lengths_read}
 use Rattle.runs.proofs.opening.open_run.Goals as goal
@@ -52,7 +52,7 @@ not_opened : (S : Scheme) (key : List ℕ) (pack first : ℕ) (run : List ℕ) (
     → (answer ≡ Done → ⊥) → lengths ≡ left_by (number_of answer) work lengths
 not_opened S key pack first run work lengths {answer} e other =
     ⊎_elim (λ (all : AllOpen S key pack first run (block_count run)). absurd (other (e ∙ all.answered)))
-    (λ (f : FailsAt S key pack first run (block_count run)). rw (e ∙ f.answered) (refusal-leaves f.why work lengths)) (in_turn_lem S key pack first run (block_count run))
+    (λ (f : FailsAt S key pack first run (block_count run)). rw (e ∙ f.answered) (refusal_leaves f.why work lengths)) (in_turn_lem S key pack first run (block_count run))
 
 pub returns-in-Refused : goal.returns-in-Refused
 returns-in-Refused c =
@@ -62,10 +62,10 @@ returns-in-Refused c =
     let run = a.run.now in
     let lengths = a.lengths.now in
     record {
-      value = sym (refused-answer hch a.key.now a.pack a.first lengths run first);
-      run_after = refusal-leaves why (deciphered_run hch a.key.now a.pack a.first run) run;
-      lengths_after = refusal-leaves why (used_lengths hch a.key.now a.pack a.first run) lengths;
-      meaning = refused-meaning hch a.key.now a.pack a.first lengths run first;
+      value = sym (refused_answer hch a.key.now a.pack a.first lengths run first);
+      run_after = refusal_leaves why (deciphered_run hch a.key.now a.pack a.first run) run;
+      lengths_after = refusal_leaves why (used_lengths hch a.key.now a.pack a.first run) lengths;
+      meaning = refused_meaning hch a.key.now a.pack a.first lengths run first;
     }
 
 pub open_blocks-opened-requires : goal.open_blocks-opened-requires
@@ -81,7 +81,7 @@ put_lengths-requires c =
     let known = openable hch a.key.now a.first a.lengths.now run (ap number_of_tests (sym c.judge-answer.ensures ∙ c.in_default.is)) in
     let bytes : Bytes run = λ i. (c.slice_known-2-1.given i).fits in
     left_length (hch_under c.expand-expansion.result.expanded) [] (c.expand-expansion.ensures.by_index 512 (omega arith)) a.pack a.first run bytes
-    (sym (whole-blocks run known.is_run)) c.open_blocks-opened.ensures ∙ ap (λ (n : ℕ). 512 * n) (sym known.list_length)
+    (sym (whole_blocks run known.is_run)) c.open_blocks-opened.ensures ∙ ap (λ (n : ℕ). 512 * n) (sym known.list_length)
 
 pub returns-in-Done : goal.returns-in-Done
 returns-in-Done c =
@@ -91,7 +91,7 @@ returns-in-Done c =
     let run = a.run.now in
     let known = openable hch key a.first lengths run (ap number_of_tests (sym c.judge-answer.ensures ∙ c.in_default.is)) in
     let same = c.expand-expansion.ensures.same known.is_key_lem in
-    let cipher = same-cipher same 16 512 (c.expand-expansion.ensures.by_index 512 (omega arith)) in
+    let cipher = same_cipher same 16 512 (c.expand-expansion.ensures.by_index 512 (omega arith)) in
     let bytes : Bytes run = λ i. (c.slice_known-2-1.given i).fits in
     let o = c.open_blocks-opened.ensures in
     let e = answered same a.pack a.first lengths run known o in
@@ -117,7 +117,7 @@ returns-in_default-opened c =
     let run = a.run.now in
     let known = openable hch key a.first lengths run (ap number_of_tests (sym c.judge-answer.ensures ∙ c.in_default.is)) in
     let same = c.expand-expansion.ensures.same known.is_key_lem in
-    let cipher = same-cipher same 16 512 (c.expand-expansion.ensures.by_index 512 (omega arith)) in
+    let cipher = same_cipher same 16 512 (c.expand-expansion.ensures.by_index 512 (omega arith)) in
     let o = c.open_blocks-opened.ensures in
     let e = answered same a.pack a.first lengths run known o in
     let l = left same a.pack a.first lengths run known o in

@@ -5,7 +5,7 @@ use native.Mathlib.Omega.{arith}
 use lib.ListN.{length, length-set}
 use Rattle.layout.specs.Layout.{used}
 use Rattle.runs.specs.Run.{blockwise}
-use Rattle.runs.proofs.Blocks.{lent-part}
+use Rattle.runs.proofs.Blocks.{lent_part}
 use Rattle.runs.proofs.Lists.{filled_next}
 use Rattle.runs.proofs.Sizes.{used-at}
 use Rattle.runs.proofs.opening.put_lengths.Goals as goal
@@ -21,7 +21,7 @@ overflow_cast-lengths c =
     let start = known in
     let run = start.args.run.now in
     let room : 512 * l.i + 512 ≤ length run = omega (arith, start.requires, l.invariant.1, c.loop-i-test.true) in
-    let read = used-at l.i run (λ k. (known.shared_slice_known-1.given k).fits) room (lent-part l.i run) in
+    let read = used-at l.i run (λ k. (known.shared_slice_known-1.given k).fits) room (lent_part l.i run) in
     omega (arith, c.get.ensures, read.1)
 
 pub loop-i-preserved : goal.loop-i-preserved
@@ -32,7 +32,7 @@ loop-i-preserved c =
     let run = start.args.run.now in
     let below : l.i < length start.args.lengths.now = omega (arith, l.invariant.1, c.loop-i-test.true) in
     let room : 512 * l.i + 512 ≤ length run = omega (arith, start.requires, below) in
-    let read = used-at l.i run (λ k. (known.shared_slice_known-1.given k).fits) room (lent-part l.i run) in (
+    let read = used-at l.i run (λ k. (known.shared_slice_known-1.given k).fits) room (lent_part l.i run) in (
       filled_next used run start.args.lengths.now l.i below l.invariant.0 (c.get.ensures ∙ read.0),
       length-set l.lengths l.i c.get.result ∙ l.invariant.1,
       rw length-set (omega (arith, c.loop-i-test.true)),

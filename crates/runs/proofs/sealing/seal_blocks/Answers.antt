@@ -10,7 +10,7 @@ use Rattle.layout.specs.Finding.{block_count, part}
 use Rattle.runs.specs.Sealing.{sealed_run}
 use Rattle.runs.specs.Inner.{walked}
 use Rattle.runs.proofs.Blocks.{walked_none, walked_all, turn}
-use Rattle.runs.proofs.Sizes.{sealed-length}
+use Rattle.runs.proofs.Sizes.{sealed_length}
 use Rattle.runs.proofs.Lists.{none_over}
 use Rattle.runs.proofs.sealing.seal_blocks.Goals as goal
 use Rattle.runs.proofs.sealing.seal_blocks.Invariants.{one}
@@ -33,7 +33,7 @@ loop-i-preserved c =
     let run = a.run.now in
     let f = one a.expanded a.pack a.first lengths in
     let sized : (j : ℕ) → j < l.i → length (f j (part j run)) ≡ 512 =
-    λ j h. sealed-length (hch_under a.expanded) [] c.requires.0 a.pack a.first run (λ k. (c.slice_known-1.given k).fits) j
+    λ j h. sealed_length (hch_under a.expanded) [] c.requires.0 a.pack a.first run (λ k. (c.slice_known-1.given k).fits) j
     (omega (arith, h, c.requires.1.whole, c.loop-i-test.true)) (get_or lengths j 0) (none_over 496 lengths c.requires.1.limit j) in (
       turn f run l.i sized (f l.i) l.invariant.0 c.seal_block.ensures refl,
       same_len_mid _ _ _ _ c.seal_block.auto.block ∙ l.invariant.1,

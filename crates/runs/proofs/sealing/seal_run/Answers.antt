@@ -3,11 +3,11 @@ use mathlib.Core.Path.{◌≡◌, sym, ap, ◌∙◌}
 use native.Mathlib.Omega.{arith}
 use Rattle.strings.specs.Call.{number_of}
 use Rattle.hch.specs.Hch.{hch}
-use Rattle.pack.proofs.Same.{same-cipher}
+use Rattle.pack.proofs.Same.{same_cipher}
 use Rattle.runs.specs.Sealing.{sealed_run}
 use Rattle.runs.proofs.Limits.{sealable, in_range}
-use Rattle.runs.proofs.OneRun.{sealed-one}
-use Rattle.runs.proofs.Same.{same-sealed}
+use Rattle.runs.proofs.OneRun.{sealed_one}
+use Rattle.runs.proofs.Same.{same_sealed}
 use Rattle.runs.proofs.sealing.seal_run.Goals as goal
 
 pub seal_blocks-requires : goal.seal_blocks-requires
@@ -32,11 +32,11 @@ returns-in-Done c =
     let done = c.in-Done.is in
     let none = ap number_of (sym c.judge-answer.ensures ∙ done) in
     let same = c.expand-expansion.ensures.same (sealable hch key a.first lengths run none).0.is_key_lem in
-    let cipher = same-cipher same 16 512 (c.expand-expansion.ensures.by_index 512 (omega arith)) in
+    let cipher = same_cipher same 16 512 (c.expand-expansion.ensures.by_index 512 (omega arith)) in
     let left : c.seal_blocks.new.run ≡ sealed_run hch key a.pack a.first lengths run =
-    c.seal_blocks.ensures ∙ same-sealed same a.pack a.first run lengths in
+    c.seal_blocks.ensures ∙ same_sealed same a.pack a.first run lengths in
     record {
       value = c.judge-answer.ensures;
       run_after = rw (done, left);
-      one_run = λ e. rw left (sealed-one hch key cipher a.pack a.first lengths run (λ i. (c.slice_known-1.given i).fits) none);
+      one_run = λ e. rw left (sealed_one hch key cipher a.pack a.first lengths run (λ i. (c.slice_known-1.given i).fits) none);
     }

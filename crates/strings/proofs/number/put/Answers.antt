@@ -5,7 +5,7 @@ use native.Mathlib.Omega.{arith}
 use lib.ListN.{length, set}
 use lib.Seq.{set_out}
 use Rattle.strings.specs.Bytes.{bytes}
-use Rattle.strings.proofs.Place.{overwrite_nil, overwrite-next, length-overwrite, rest-next}
+use Rattle.strings.proofs.Place.{overwrite_nil, overwrite-next, length-overwrite, rest_next}
 use Rattle.strings.proofs.number.put.Goals as goal
 use Rattle.strings.proofs.number.put.Goals.{then-i-there, else-i-there}
 
@@ -32,6 +32,6 @@ loop-i-preserved c =
           w.out-is ∙ sym (set_out l.out k (l.rest % 256) past)
     ] in (
       omega arith,
-      rw (more, l.invariant.1, rest-next),
+      rw (more, l.invariant.1, rest_next),
       rw (stored, more, l.invariant.1, l.invariant.2) (rw back at (overwrite-next k (a.n - l.i) a.value a.out.now)),
     )

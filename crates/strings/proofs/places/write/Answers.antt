@@ -2,7 +2,7 @@
 use mathlib.Core.Path.{◌≡◌, sym}
 use Prim.Native.Nat.{◌+◌, ◌-◌}
 use native.Mathlib.Omega.{arith}
-use Rattle.strings.proofs.Place.{overwrite-part, overwrite-past}
+use Rattle.strings.proofs.Place.{overwrite-part, overwrite_past}
 use Rattle.strings.proofs.places.write.Goals as goal
 
 pub returns-then-at-out : goal.returns-then-at-out
@@ -13,4 +13,4 @@ returns-then-at-out c =
     rw (width, c.copy_from_slice.ensures.after) (overwrite-part a.at n a.s.now a.out.now c.least-n.ensures)
 
 pub returns-else-at-out : goal.returns-else-at-out
-returns-else-at-out c = sym (overwrite-past c.args.at c.args.s.now c.args.out.now c.if-at-out.false)
+returns-else-at-out c = sym (overwrite_past c.args.at c.args.s.now c.args.out.now c.if-at-out.false)

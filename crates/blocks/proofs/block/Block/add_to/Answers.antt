@@ -4,7 +4,7 @@ use lib.ListN.{drop}
 use Rattle.strings.specs.Bytes.{number}
 use Rattle.blocks.specs.Blocks.{first_block}
 use Rattle.blocks.specs.Inner.{value}
-use Rattle.blocks.proofs.Blocks.{block-padded}
+use Rattle.blocks.proofs.Blocks.{block_padded}
 use Rattle.blocks.proofs.block.Block.add_to.Goals as goal
 
 pub returns-then-whole : goal.returns-then-whole
@@ -15,5 +15,5 @@ returns-then-whole c =
     let there = sum in
     let a = there.args in
     let first : value there.from_words-there.result ≡ first_block (drop a.at a.out.now) =
-    there.from_words-there.ensures ∙ ap number there.words_at.ensures ∙ sym (block-padded (drop a.at a.out.now)) in
+    there.from_words-there.ensures ∙ ap number there.words_at.ensures ∙ sym (block_padded (drop a.at a.out.now)) in
     rw (written.put_words.ensures, words.to_words.ensures, sum.xor.ensures, first)

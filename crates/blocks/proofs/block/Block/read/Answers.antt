@@ -3,13 +3,13 @@ use mathlib.Core.Path.{sym, ap, ◌∙◌}
 use lib.ListN.{drop}
 use Rattle.strings.specs.Bytes.{number}
 use Rattle.blocks.specs.Inner.{value}
-use Rattle.blocks.proofs.Blocks.{block-padded, join_halves}
+use Rattle.blocks.proofs.Blocks.{block_padded, join_halves}
 use Rattle.blocks.proofs.block.Block.read.Goals as goal
 
 pub returns-then-whole : goal.returns-then-whole
 returns-then-whole c =
     let a = c.args in
-    c.from_words.ensures ∙ ap number c.words_at.ensures ∙ sym (block-padded (drop a.at a.s.now))
+    c.from_words.ensures ∙ ap number c.words_at.ensures ∙ sym (block_padded (drop a.at a.s.now))
 
 pub returns : goal.returns
 unfolding value

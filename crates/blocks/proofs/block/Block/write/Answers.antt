@@ -7,7 +7,7 @@ use lib.ListN.{length}
 use Rattle.strings.specs.Bytes.{bytes}
 use Rattle.strings.specs.Inner.{overwrite}
 use Rattle.blocks.specs.Inner.{value}
-use Rattle.strings.proofs.Place.{bytes_join, overwrite-again}
+use Rattle.strings.proofs.Place.{bytes_join, overwrite_again}
 use Rattle.strings.proofs.Bytes.{length-bytes, bytes-append}
 use Rattle.blocks.proofs.block.Block.write.Goals as goal
 
@@ -21,4 +21,4 @@ returns c =
     let same : length front ≡ length (bytes 8 a.self.hi) = length-bytes 8 (a.self.lo / 2 ^ 64) ∙ sym (length-bytes 8 a.self.hi) in
     let first : p.put.new.out ≡ overwrite a.at (bytes 16 a.self.lo) a.out.now = p.put.ensures in
     rw (c.put-2.ensures, first, bytes_join 8 8 a.self.hi low, bytes-append 8 8 a.self.lo)
-    (overwrite-again a.at front (bytes 8 a.self.hi) (bytes 8 a.self.lo) a.out.now same)
+    (overwrite_again a.at front (bytes 8 a.self.hi) (bytes 8 a.self.lo) a.out.now same)

@@ -8,7 +8,7 @@ use Rattle.strings.specs.Xor.{◌⊕◌}
 use Rattle.blocks.specs.Blocks.{bin}
 use Rattle.blocks.specs.Inner.{value}
 use Rattle.strings.proofs.Xor.{xor_comm}
-use Rattle.blocks.proofs.Halves.{halves-reduced}
+use Rattle.blocks.proofs.Halves.{halves_reduced}
 use Rattle.blocks.proofs.block.Block.xor_bin.Goals as goal
 
 word_bin : (n : ℕ) → n < 2 ^ 64 → n % 2 ^ 128 ≡ n
@@ -22,4 +22,4 @@ returns c =
     let a = c.args.self in
     let n = c.args.n in
     let hn : n < 2 ^ 64 = c.ranges.n.fits in
-    rw (word_bin n hn) (halves-reduced 64 a.hi a.lo n (search rules) hn ∙ xor_comm n (value a))
+    rw (word_bin n hn) (halves_reduced 64 a.hi a.lo n (search rules) hn ∙ xor_comm n (value a))
