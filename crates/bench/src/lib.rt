@@ -15,7 +15,7 @@ use primitives::field;
 // Enciphers the first 16 bytes by AES with these words and rounds; a shorter string is padded, and the result cut.
 #[unsafe(no_mangle)]
 pub extern "C" fn bench_aes_encipher(words: &[u32; 60], rounds: usize, data: &mut [u8])
-    ensures { «data».new ≡ overwrite 0 (bytes 16 ((under (record { words = words.entry.now; rounds = rounds })).E (first_block «data».old))) «data».old }
+    ensures { «data».new ≡ overwrite 0 (bytes 16 ((under (record { words = words.now; rounds = rounds })).E (first_block «data».old))) «data».old }
 {
     let expanded = ExpandedKey {
         words: *words,
@@ -27,7 +27,7 @@ pub extern "C" fn bench_aes_encipher(words: &[u32; 60], rounds: usize, data: &mu
 // Deciphers the first 16 bytes by AES with these words and rounds; a shorter string is padded, and the result cut.
 #[unsafe(no_mangle)]
 pub extern "C" fn bench_aes_decipher(words: &[u32; 60], rounds: usize, data: &mut [u8])
-    ensures { «data».new ≡ overwrite 0 (bytes 16 ((under (record { words = words.entry.now; rounds = rounds })).D (first_block «data».old))) «data».old }
+    ensures { «data».new ≡ overwrite 0 (bytes 16 ((under (record { words = words.now; rounds = rounds })).D (first_block «data».old))) «data».old }
 {
     let expanded = ExpandedKey {
         words: *words,

@@ -5,7 +5,6 @@ ghost use Rattle.vectors.specs.declared.fields.Two.TheVariants.{Lengths};
 
 use crate::{BYTES, LIMIT};
 use blocks::block::Block;
-use libc::STDOUT_FILENO;
 use strings::{number, places};
 use text::hex::Decoded;
 
@@ -24,16 +23,29 @@ pub(crate) fn list_room() -> [u16; BYTES / 2]
     [0u16; BYTES / 2]
 }
 
+// The place of the first byte b, or the length of `s` where there is none.
+pub(crate) fn place_of(b: u8, s: &[u8]) -> usize
+    ensures { result ≤ length s.now }
+{
+    for (i, x) in s.iter().enumerate() {
+        if *x == b {
+            return i;
+        }
+    }
+    s.len()
+}
+
 // Decodes the blocks that stand in `line`, one space between two, to the front of `data`, and answers
 // the number of their bytes. A field that is not a block is refused, and so is one block more than
 // `data` has room for.
+#[tactic(auto, using(crate::proofs::Decoded::decoded))]
 pub(crate) fn blocks_from(line: &[u8], data: &mut [u8]) -> Decoded
     ensures { (n : ℕ) → result ≡ Bytes n → n ≤ length «data».old }
 {
     let mut n = 0;
     let mut next = 0;
     while next <= line.len() {
-        let end = bytes::scan::find(line, next, line.len(), b' ');
+        let end = next + place_of(b' ', &line[next..]);
         if data.len() - n < 16 {
             return Decoded::Refused;
         }
@@ -51,6 +63,7 @@ pub(crate) fn blocks_from(line: &[u8], data: &mut [u8]) -> Decoded
 
 // Decodes the field at the front of `line`, which ends at the first space, to `out`, and says whether
 // it fills `out`: what follows the space then begins at 2 * out.len() + 1.
+#[tactic(auto, using(crate::proofs::Decoded::decoded))]
 pub(crate) fn filled(line: &[u8], out: &mut [u8]) -> bool
     ensures { result ≡ true → 2 * length out.old < length line.now }
 {
@@ -68,6 +81,7 @@ pub(crate) enum Two {
 }
 
 // Decodes two fields with a space between them. The last ends with the line: a space is no digit, so a third is refused here.
+#[tactic(auto, using(crate::proofs::Decoded::decoded))]
 pub(crate) fn decode_two(line: &[u8], first: &mut [u8], last: &mut [u8]) -> Two
     ensures { (m n : ℕ) → result ≡ Lengths m n → (m ≤ length first.old) × (n ≤ length last.old) }
 {
@@ -107,49 +121,59 @@ fn list_bytes(list: &[u16], out: &mut [u8]) -> usize
     2 * n
 }
 
+// Writes to standard output. Where that fails, nothing is left to be done: the program goes on with the next line.
+pub(crate) fn put(rt: &impl Print, bytes: &[u8]) {
+    let _ = rt.write_all(bytes);
+}
+
+// Writes a number in decimal digits.
+pub(crate) fn put_number(rt: &impl Print, n: u64) {
+    let _ = rt.print(n);
+}
+
 // Writes a list and a space.
-pub(crate) fn put_list(list: &[u16]) {
+pub(crate) fn put_list(rt: &impl Print, list: &[u16]) {
     let mut bytes = room();
     let n = list_bytes(list, &mut bytes);
     let mut spaces = [b' '; LIMIT + 1];
-    put_bytes(&bytes[0..n], &mut spaces);
+    put_bytes(rt, &bytes[0..n], &mut spaces);
 }
 
 // Writes a block as a line.
-pub(crate) fn put_block(b: Block) {
+pub(crate) fn put_block(rt: &impl Print, b: Block) {
     let mut bytes = [0u8; 16];
     b.write(&mut bytes, 0);
     let mut line = [b'\n'; 33];
-    put_bytes(&bytes, &mut line);
+    put_bytes(rt, &bytes, &mut line);
 }
 
 // Writes bytes and a line feed, or a space where they do not end the answer, by way of `out`, in which the caller lends that
 // character, more of it than there are digits: the digits go to the front, and one such character is written with them.
-pub(crate) fn put_bytes(bytes: &[u8], out: &mut [u8]) {
+pub(crate) fn put_bytes(rt: &impl Print, bytes: &[u8], out: &mut [u8]) {
     let n = text::hex::encode(bytes, out);
     if n < out.len() {
         let end = n + 1;
-        io::write_all(STDOUT_FILENO, &out[0..end]);
+        put(rt, &out[0..end]);
     }
 }
 
 // Writes bytes as the end of an answer.
-pub(crate) fn put_line(bytes: &[u8]) {
+pub(crate) fn put_line(rt: &impl Print, bytes: &[u8]) {
     let mut line = [b'\n'; LIMIT + 1];
-    put_bytes(bytes, &mut line);
+    put_bytes(rt, bytes, &mut line);
 }
 
 // Writes the answer of a call: the bytes, or `no` and the number of the refusal. Where the line lent the bytes, it is the number and
 // the bytes as they are left, refused or not.
-pub(crate) fn put_answer(lent: bool, number: u32, bytes: &[u8]) {
+pub(crate) fn put_answer(rt: &impl Print, lent: bool, number: u32, bytes: &[u8]) {
     if lent {
-        io::print_decimal(STDOUT_FILENO, number as u64);
-        io::write_all(STDOUT_FILENO, b" ");
+        put_number(rt, number as u64);
+        put(rt, b" ");
     } else if number > 0 {
-        io::write_all(STDOUT_FILENO, b"no ");
-        io::print_decimal(STDOUT_FILENO, number as u64);
-        io::write_all(STDOUT_FILENO, b"\n");
+        put(rt, b"no ");
+        put_number(rt, number as u64);
+        put(rt, b"\n");
         return;
     }
-    put_line(bytes);
+    put_line(rt, bytes);
 }

@@ -6,7 +6,7 @@ use blocks::block::Block;
 use text::hex::Decoded;
 
 // Answers the command and says so, or writes nothing. The place has 8 digits; for more of them there is no room.
-pub(crate) fn reply(rest: &[u8]) -> bool {
+pub(crate) fn reply(rt: &impl Print, rest: &[u8]) -> bool {
     let mut pack = fields::room();
     let mut place = [0u8; 4];
     let Two::Lengths(n, m) = fields::decode_two(rest, &mut pack, &mut place) else {
@@ -16,29 +16,30 @@ pub(crate) fn reply(rest: &[u8]) -> bool {
         return false;
     }
     let place = Block::read(&place, 0).hi >> 32;
-    find(&pack[0..n], place as u32);
+    find(rt, &pack[0..n], place as u32);
     true
 }
 
 // Writes the block, or the number of the refusal.
-fn find(pack: &[u8], place: u32) {
+fn find(rt: &impl Print, pack: &[u8], place: u32) {
     let answer = layout::find_answer(pack, place);
     let part = layout::find(pack, place);
-    fields::put_answer(false, answer.number(), part);
+    fields::put_answer(rt, false, answer.number(), part);
 }
 
 // Answers the command on a lent pack and says so, or writes nothing.
-pub(crate) fn reply_lent(rest: &[u8]) -> bool {
+#[tactic(auto, using(crate::proofs::Decoded::decoded))]
+pub(crate) fn reply_lent(rt: &impl Print, rest: &[u8]) -> bool {
     let mut pack = fields::room();
     let Decoded::Bytes(n) = text::hex::decode_field(rest, b' ', &mut pack) else {
         return false;
     };
     let rest = &rest[2 * n + 1..];
-    run_lent(&mut pack[0..n], rest)
+    run_lent(rt, &mut pack[0..n], rest)
 }
 
 // The place, of 8 digits, and the bytes to write stand behind the pack.
-fn run_lent(pack: &mut [u8], rest: &[u8]) -> bool {
+fn run_lent(rt: &impl Print, pack: &mut [u8], rest: &[u8]) -> bool {
     let mut place = [0u8; 4];
     let mut block = fields::room();
     let Two::Lengths(m, n) = fields::decode_two(rest, &mut place, &mut block) else {
@@ -48,15 +49,15 @@ fn run_lent(pack: &mut [u8], rest: &[u8]) -> bool {
         return false;
     }
     let place = Block::read(&place, 0).hi >> 32;
-    write(pack, place as u32, &block[0..n]);
+    write(rt, pack, place as u32, &block[0..n]);
     true
 }
 
 // Writes to the front of the part that is found. No contract says that finding it leaves the rest of the pack: the answer shows all
 // of it. The part is empty where finding is refused, so that nothing is written.
-fn write(pack: &mut [u8], place: u32, block: &[u8]) {
+fn write(rt: &impl Print, pack: &mut [u8], place: u32, block: &[u8]) {
     let answer = layout::find_answer(pack, place);
     let part = layout::find_mut(pack, place);
     strings::places::write(part, 0, block);
-    fields::put_answer(true, answer.number(), pack);
+    fields::put_answer(rt, true, answer.number(), pack);
 }

@@ -44,9 +44,9 @@ mod message;
 mod sealing;
 
 use blocks::block::Block;
-use libc::{STDIN_FILENO, STDOUT_FILENO};
 use primitives::field;
 use schemes::SchemeName;
+use std::io::Read;
 use text::hex::Decoded;
 use text::part::Kept;
 
@@ -57,37 +57,40 @@ const LIMIT: usize = 135168;
 // The most bytes that the digits of a line stand for.
 const BYTES: usize = LIMIT / 2;
 
-// A proved loop has to end, and nothing says that the input does. So the loop counts its turns down,
-// from a number that no run uses up.
-fn main() {
+// The most bytes that are read at once.
+const CHUNK: usize = 65536;
+
+// A proved loop has to end, and nothing says that the input does. So the loop counts its turns, to a number that no run reaches.
+// A read that fails ends the input.
+fn main(rt: HostRuntime) {
+    let mut input = rt.stdin();
     let mut line = [0u8; LIMIT];
-    let mut chunk = io::large_buffer();
+    let mut chunk = [0u8; CHUNK];
     let mut kept = Kept::Characters(0);
-    let mut turns = u64::MAX;
-    while turns > 0 {
-        let got = libc::read(STDIN_FILENO, &mut chunk);
-        let n = io::count(got, &chunk);
+    for _ in 0..u64::MAX {
+        let Ok(n) = input.read(&mut chunk) else {
+            break;
+        };
         if n == 0 {
             break;
         }
-        let next = lines(&mut line, kept, &chunk[..n]);
+        let next = lines(&rt, &mut line, kept, &chunk[..n]);
         kept = next;
-        turns -= 1;
     }
-    last(&line, kept);
+    last(&rt, &line, kept);
 }
 
 // Goes on with the line under way, answers it where it ends, and so with each that follows. What is
 // kept of the last, which has not ended, is returned.
-fn lines(line: &mut [u8], kept: Kept, chunk: &[u8]) -> Kept {
+fn lines(rt: &impl Print, line: &mut [u8], kept: Kept, chunk: &[u8]) -> Kept {
     let mut kept = kept;
     let mut at = 0;
     while at < chunk.len() {
-        let end = bytes::scan::find(chunk, at, chunk.len(), b'\n');
+        let end = at + fields::place_of(b'\n', &chunk[at..]);
         let more = text::part::append(line, kept, &chunk[at..end]);
         kept = more;
         if end < chunk.len() {
-            answer(line, kept);
+            answer(rt, line, kept);
             kept = Kept::Characters(0);
         }
         at = end + 1;
@@ -96,52 +99,52 @@ fn lines(line: &mut [u8], kept: Kept, chunk: &[u8]) -> Kept {
 }
 
 // Answers a last line that lacks its line feed; after a final line feed there is none.
-fn last(line: &[u8], kept: Kept) {
+fn last(rt: &impl Print, line: &[u8], kept: Kept) {
     if let Kept::Characters(n) = kept {
         if n == 0 {
             return;
         }
     }
-    answer(line, kept);
+    answer(rt, line, kept);
 }
 
 // Answers the line that is kept.
-fn answer(line: &[u8], kept: Kept) {
+fn answer(rt: &impl Print, line: &[u8], kept: Kept) {
     if let Kept::Characters(n) = kept {
         if n <= line.len() {
-            if reply(&line[0..n]) {
+            if reply(rt, &line[0..n]) {
                 return;
             }
         }
     }
-    io::write_all(STDOUT_FILENO, b"no\n");
+    fields::put(rt, b"no\n");
 }
 
 // Writes the answer to a line and says so, or writes nothing. The command ends at the first space, and its fields come after.
-fn reply(line: &[u8]) -> bool {
-    let end = bytes::scan::find(line, 0, line.len(), b' ');
+fn reply(rt: &impl Print, line: &[u8]) -> bool {
+    let end = fields::place_of(b' ', line);
     if end >= line.len() {
         return false;
     }
     let next = end + 1;
-    run(&line[0..end], &line[next..])
+    run(rt, &line[0..end], &line[next..])
 }
 
 // A command on the rest of its line. Those of one letter read blocks; those of two begin with a key, but for the two that find.
-fn run(command: &[u8], rest: &[u8]) -> bool {
+fn run(rt: &impl Print, command: &[u8], rest: &[u8]) -> bool {
     if command.len() == 1 {
-        return run_blocks(command[0], rest);
+        return run_blocks(rt, command[0], rest);
     }
     if command.len() == 2 {
         let scheme = command[0];
         let way = command[1];
         if scheme == b'p' && way == b'f' {
-            return finding::reply(rest);
+            return finding::reply(rt, rest);
         }
         if scheme == b'l' && way == b'f' {
-            return finding::reply_lent(rest);
+            return finding::reply_lent(rt, rest);
         }
-        return run_keyed(scheme, way, rest);
+        return run_keyed(rt, scheme, way, rest);
     }
     false
 }
@@ -160,7 +163,8 @@ pub(crate) fn name_of(letter: u8) -> SchemeName {
 }
 
 // A command under a key of any length. Those of `f`, and those of `l` and `g`, which lend, are on a message or of a pack, as the second letter says.
-fn run_keyed(scheme: u8, way: u8, rest: &[u8]) -> bool {
+#[tactic(auto, using(crate::proofs::Decoded::decoded))]
+fn run_keyed(rt: &impl Print, scheme: u8, way: u8, rest: &[u8]) -> bool {
     let mut key = fields::room();
     let Decoded::Bytes(n) = text::hex::decode_field(rest, b' ', &mut key) else {
         return false;
@@ -168,44 +172,44 @@ fn run_keyed(scheme: u8, way: u8, rest: &[u8]) -> bool {
     let key = &key[0..n];
     let rest = &rest[2 * n + 1..];
     if scheme == b'a' {
-        return cipher::reply(way, key, rest);
+        return cipher::reply(rt, way, key, rest);
     }
     let either = lends(scheme) || scheme == b'f';
     if scheme == b'h' || either && (way == b'e' || way == b'd') {
-        return message::reply(scheme, way, key, rest);
+        return message::reply(rt, scheme, way, key, rest);
     }
     if scheme == b'p' || either || scheme == b'r' {
-        return sealing::reply(scheme, way, key, rest);
+        return sealing::reply(rt, scheme, way, key, rest);
     }
     false
 }
 
 // A command on blocks.
-fn run_blocks(command: u8, rest: &[u8]) -> bool {
+fn run_blocks(rt: &impl Print, command: u8, rest: &[u8]) -> bool {
     let mut data = fields::room();
     let Decoded::Bytes(n) = fields::blocks_from(rest, &mut data) else {
         return false;
     };
-    ring(command, &data[0..n])
+    ring(rt, command, &data[0..n])
 }
 
 // The products of blocks.
-fn ring(command: u8, data: &[u8]) -> bool {
+fn ring(rt: &impl Print, command: u8, data: &[u8]) -> bool {
     let n = data.len();
     if n < 16 {
         return false;
     }
     let a = Block::read(data, 0);
     if command == b'x' && n == 16 {
-        fields::put_block(field::times_x(a));
+        fields::put_block(rt, field::times_x(a));
         return true;
     }
     if command == b'm' && n == 32 {
-        fields::put_block(field::product(a, Block::read(data, 16)));
+        fields::put_block(rt, field::product(a, Block::read(data, 16)));
         return true;
     }
     if command == b's' {
-        fields::put_block(field::power_sum(a, &data[16..]));
+        fields::put_block(rt, field::power_sum(a, &data[16..]));
         return true;
     }
     false
