@@ -182,9 +182,9 @@ pub fn read_two(s: &[u8]) -> Pair
 // The first three blocks of a string, as `read` reads them. Where all are whole, they are read with one test for the three. Only parts of `s` are lent on, here and below:
 // where `s` itself is, the compiler keeps its address and length in memory.
 pub fn read_three(s: &[u8]) -> Three
-    ensures first_value { value result.first ≡ first_block s.now }
-    ensures second_value { value result.second ≡ first_block (drop 16 s.now) }
-    ensures third_value { value result.third ≡ first_block (drop 32 s.now) }
+    ensures first_of_three { value result.first ≡ first_block s.now }
+    ensures second_of_three { value result.second ≡ first_block (drop 16 s.now) }
+    ensures third_of_three { value result.third ≡ first_block (drop 32 s.now) }
 {
     if s.len() < 48 {
         return Three {
