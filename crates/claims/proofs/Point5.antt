@@ -55,7 +55,7 @@ unfolding enciphered deciphered enciphered_by deciphered_by seal tests
 point_5 = record {
   enciphered_by_aes = λ key tweak P. refl;
   deciphered_by_aes = λ key tweak C. refl;
-  polynomial-hash = λ τ Xs hτ h. sym ((Forward.theorems).polynomial-hash τ Xs hτ h);
+  polynomial_hash = λ τ Xs hτ h. sym ((Forward.theorems).polynomial_hash τ Xs hτ h);
   primitive_element = primitive_element;
   feistel_undone = (Forward.theorems).feistel_undone;
   forward_numbers = message_numbers forward (λ key. refl) 33 ForwardTooShort (omega arith);

@@ -32,7 +32,7 @@ pub record Point5 : Type 0 where
   pub enciphered_by_aes : (key tweak P : List ℕ) → enciphered key tweak P ≡ encipher (aes key).E times_x power_sum (number tweak) P
   pub deciphered_by_aes : (key tweak C : List ℕ) → deciphered key tweak C ≡ decipher (aes key).E times_x power_sum (number tweak) C
   -- The polynomial hash is the paper's.
-  pub polynomial-hash : (τ : ℕ) (Xs : List ℕ) → IsBlock τ → Below (2 ^ 128) Xs → power_sum τ Xs ≡ τ · Poly τ Xs
+  pub polynomial_hash : (τ : ℕ) (Xs : List ℕ) → IsBlock τ → Below (2 ^ 128) Xs → power_sum τ Xs ≡ τ · Poly τ Xs
   -- "Its primitive element is x in our field." That x is primitive is not shown, and nothing here rests on it.
   pub primitive_element : (β i : ℕ) → IsBlock β → φ times_x β i ≡ power 1 ◌·◌ x i · β
   -- Table 2's caption: with its blocks swapped, the Feistel construction is undone.

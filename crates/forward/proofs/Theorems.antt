@@ -9,7 +9,7 @@ use lib.Dec.{lit<}
 use lib.ListN.{length}
 use Rattle.strings.specs.Xor.{◌⊕◌}
 use Rattle.strings.specs.Bytes.{Below, number, bytes}
-use Rattle.strings.specs.Cipher.{Cipher, TweakableCipher, Same}
+use Rattle.strings.specs.Cipher.{TweakableCipher, Same}
 use Rattle.blocks.specs.BlockCipher.{BlockCipher}
 use Rattle.blocks.specs.Blocks.{IsBlock, bin, pad, first_block, cut, blocks, string}
 use Rattle.blocks.specs.Counter.{masked, φ}
@@ -35,14 +35,9 @@ own_parts E keeps = record {
   hash_keeps = λ τ Xs hτ h. power_sum_below ring_of_blocks τ hτ Xs h;
 }
 
--- The proof holds from 32 bytes on; 33 is the paper's least length.
-scheme_cipher : (E times_x : ℕ → ℕ) (h : ℕ → List ℕ → ℕ) → Parts E times_x h → (T n : ℕ) → IsBlock T → 33 ≤ n
-    → Cipher n (encipher E times_x h T) (decipher E times_x h T)
-scheme_cipher E times_x h parts T n hT l = Scheme.scheme_cipher parts T n hT (omega (arith, l))
-
 by_function : (E : ℕ → ℕ) → BlockFunction E → (n : ℕ) → 33 ≤ n → TweakableCipher 16 n (enciphered_by E) (deciphered_by E)
 unfolding enciphered_by deciphered_by
-by_function E keeps n l tweak t = scheme_cipher E times_x power_sum (own_parts E keeps) (number tweak) n (rw t.0 at (number_below tweak t.1)) l
+by_function E keeps n l tweak t = Scheme.scheme_cipher (own_parts E keeps) (number tweak) n (rw t.0 at (number_below tweak t.1)) (omega (arith, l))
 
 pub under-cipher : (expanded : ExpandedKey) (n : ℕ) → 33 ≤ n → TweakableCipher 16 n ((forward_under expanded).encipher []) ((forward_under expanded).decipher [])
 under-cipher expanded = by_function (under expanded).E ((Aes.theorems).under_permutation expanded).keeps
@@ -57,14 +52,14 @@ same_expanded key k =
     let same : (under (expanded_key key)).E ≡ (aes key).E = ap (λ (c : BlockCipher). c.E) ((Aes.theorems).expanded_aes key k) in
     record { takes = rw k; enciphers = ap enciphered_by same; deciphers = ap deciphered_by same }
 
-polynomial-hash : (τ : ℕ) (Xs : List ℕ) → IsBlock τ → Below (2 ^ 128) Xs → τ · Poly τ Xs ≡ power_sum τ Xs
+polynomial_hash : (τ : ℕ) (Xs : List ℕ) → IsBlock τ → Below (2 ^ 128) Xs → τ · Poly τ Xs ≡ power_sum τ Xs
 unfolding Poly power_sum_over power
-polynomial-hash τ [] hτ h = ring_of_blocks.zero_right τ
-polynomial-hash τ (X ∷ Xs) hτ h =
+polynomial_hash τ [] hτ h = ring_of_blocks.zero_right τ
+polynomial_hash τ (X ∷ Xs) hτ h =
     let τⁿ : ℕ = power 1 ◌·◌ τ (length Xs) in
     let hτⁿ : IsBlock τⁿ = power_below ring_of_blocks τ (length Xs) hτ in
     let turned : τ · (τⁿ · X) ≡ X · (τ · τⁿ) = sym (ring_of_blocks.assoc τ τⁿ X hτ hτⁿ (h 0)) ∙ ring_of_blocks.comm (τ · τⁿ) X (ring_of_blocks.below τ τⁿ hτ) (h 0) in
-    rw (ring_of_blocks.add_right τ (τⁿ · X) (Poly τ Xs), turned, polynomial-hash τ Xs hτ (λ i. h (suc i)))
+    rw (ring_of_blocks.add_right τ (τⁿ · X) (Poly τ Xs), turned, polynomial_hash τ Xs hτ (λ i. h (suc i)))
 
 example_enciphered : encipher example_function times_x power_sum example_tweak example_plaintext ≡ example_ciphertext
 unfolding encipher KeyDef1 MCTR Υ Feistel φ masked blocks cut first_block pad string bin number bytes power_sum_over power product product_n times_x_over times01 ◌⊕◌
@@ -74,12 +69,13 @@ example_deciphered : decipher example_function times_x power_sum example_tweak e
 unfolding decipher KeyDef1 MCTR Υ Feistel swapped_feistel φ masked blocks cut first_block pad string bin number bytes power_sum_over power product product_n times_x_over times01 ◌⊕◌
 example_deciphered = refl
 
+-- The scheme is a cipher from 32 bytes on; 33 is the paper's least length.
 pub theorems : Theorems
 theorems = record {
   feistel_undone = Scheme.feistel_undone;
-  scheme_cipher = scheme_cipher;
-  scheme_one_plaintext = λ E times_x h parts T n hT l. one_preimage (scheme_cipher E times_x h parts T n hT l);
-  polynomial-hash = polynomial-hash;
+  scheme_cipher = λ E times_x h parts T n hT l. Scheme.scheme_cipher parts T n hT (omega (arith, l));
+  scheme_one_plaintext = λ E times_x h parts T n hT l. one_preimage (Scheme.scheme_cipher parts T n hT (omega (arith, l)));
+  polynomial_hash = polynomial_hash;
   own_parts = own_parts;
   function_cipher = by_function;
   example_enciphered = example_enciphered;

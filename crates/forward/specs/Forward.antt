@@ -116,7 +116,7 @@ pub record Parts (E times_x : ℕ → ℕ) (h : ℕ → List ℕ → ℕ) : Type
   pub step_keeps : (a : ℕ) → IsBlock a → IsBlock (times_x a)
   pub hash_keeps : (τ : ℕ) (Xs : List ℕ) → IsBlock τ → Below (2 ^ 128) Xs → IsBlock (h τ Xs)
 
--- "Usual polynomial hashing", Poly with τ over X₁, …, Xₘ: τ ^ (m - 1) X₁ ⊕ … ⊕ τ Xₘ₋₁ ⊕ Xₘ. The hash is τ times this. By the theorem `polynomial-hash` that is
+-- "Usual polynomial hashing", Poly with τ over X₁, …, Xₘ: τ ^ (m - 1) X₁ ⊕ … ⊕ τ Xₘ₋₁ ⊕ Xₘ. The hash is τ times this. By the theorem `polynomial_hash` that is
 -- X₁ τ ^ m ⊕ … ⊕ Xₘ τ, `power_sum` of the blocks' BlockField.antt.
 unfoldable pub Poly : ℕ → List ℕ → ℕ
 Poly τ [] = 0

@@ -38,7 +38,7 @@ pub record Theorems : Type 0 where
   pub scheme_one_plaintext : (E times_x : ℕ → ℕ) (h : ℕ → List ℕ → ℕ) → Parts E times_x h → (T n : ℕ) → IsBlock T → 33 ≤ n
       → (C : List ℕ) → OfLength n C → OnePreimage n (encipher E times_x h T) C (decipher E times_x h T C)
   -- The hash of the scheme is the paper's: τ times Poly.
-  pub polynomial-hash : (τ : ℕ) (Xs : List ℕ) → IsBlock τ → Below (2 ^ 128) Xs → τ · Poly τ Xs ≡ power_sum τ Xs
+  pub polynomial_hash : (τ : ℕ) (Xs : List ℕ) → IsBlock τ → Below (2 ^ 128) Xs → τ · Poly τ Xs ≡ power_sum τ Xs
   -- 01's step by x and polynomial hashing serve every function in the place of AES.
   pub own_parts : (E : ℕ → ℕ) → BlockFunction E → Parts E times_x power_sum
   pub function_cipher : (E : ℕ → ℕ) → BlockFunction E → (n : ℕ) → 33 ≤ n
