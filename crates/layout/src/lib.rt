@@ -47,6 +47,16 @@ fn put_check(u: usize, pack: u64, place: u32, block: &mut [u8])
     number::put(block, 510, 2, 0);
 }
 
+// Copies a payload to the front of a block, byte by byte, so that the archive for C asks the C library for `memcpy` and `memset` alone.
+fn copy_front(payload: &[u8], block: &mut [u8])
+    requires { length payload.now ≤ length block.old }
+    ensures { block.new ≡ overwrite 0 payload.now block.old }
+{
+    for (i, b) in payload.iter().enumerate() {
+        block[i] = *b;
+    }
+}
+
 // Writes the plain block of a payload, or nothing where either has another length.
 pub fn write(payload: &[u8], pack: u64, place: u32, block: &mut [u8])
     ensures { block.new ≡ cond (fits payload.now block.old) (plain_block payload.now pack place) block.old }
@@ -57,7 +67,7 @@ pub fn write(payload: &[u8], pack: u64, place: u32, block: &mut [u8])
     if block.len() != 512 {
         return;
     }
-    block[..payload.len()].copy_from_slice(payload);
+    copy_front(payload, block);
     put_check(payload.len(), pack, place, block);
 }
 
