@@ -285,6 +285,7 @@ impl ExpandedKey {
     }
 
     // D of a block.
+    #[inline(never)]
     pub fn decipher(self, block: Block) -> Block
         ensures { value result ≡ (under self).D (value block) }
     {
