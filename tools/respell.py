@@ -1,15 +1,15 @@
 #!/usr/bin/env python3
 """Brings the names of this repository's definitions and lemmas to the spelling
 of the Rattle that docs/PORT.md names: words in snake case, and a dash only
-where it joins two names, as in `length-bytes`.
+where it joins the names of two functions in a law's, as in `length-bytes`.
 
 usage: python3 tools/respell.py            in the repository, once, behind the kit's port.py
        python3 tools/respell.py --list     prints the old and the new names and changes nothing
 
 Types, modules and the papers' own letters and names keep their spelling, and
 so do the functions of src/ and what the library names. Each old name has one
-new name, the same in every crate, and no two names fall together: a lemma that
-would bear the name of something else gets `_lem`.
+new name, the same in every crate. A lemma that would fall together with
+something else gets `_lem`.
 """
 
 import pathlib
@@ -17,7 +17,6 @@ import re
 import sys
 
 ROOT = pathlib.Path(__file__).resolve().parents[1]
-PROOFS = ("Proof.antt", "Invariants.antt", "Answers.antt")
 TOKEN = re.compile(r"[^\s(){}.,;:`\"«»\[\]&*|]+")
 USE = re.compile(r"^(?:pub |ghost )*use ([\w.+-]+)\.\{([^}]*)\}", re.M)
 ALIAS = re.compile(r" as ([a-z][\w'-]*)")
@@ -44,6 +43,7 @@ class Names:
             path: path.read_text() for path in sorted(ROOT.glob("crates/**/*"))
             if path.suffix in (".rt", ".antt") and "out" not in path.parts}
         self.defined, self.functions_of_specs = set(), set()
+        self.members = set()  # of records in specs/: theorems and the like
         self.library, self.functions = set(), set()
         for path, text in self.texts.items():
             if path.suffix == ".rt":
@@ -60,6 +60,8 @@ class Names:
             match = SIGNATURE.match(line)
             if match and not line.lstrip().startswith(NOT_DEFINING):
                 self.defined.add(match[2])
+                if path.parent.name == "specs" and line.startswith("  pub "):
+                    self.members.add(match[2])
                 if path.parent.name == "specs" and re.match(
                         "abbrev|unfoldable", match[1]):
                     self.functions_of_specs.add(snake(match[2]))
@@ -75,7 +77,8 @@ class Names:
         taken = plain | set(result.values()) | self.functions
         for name in sorted(names - plain):
             parts = [snake(part) for part in name.split("-")]
-            joins = len(parts) == 2 and joined.issuperset(parts)
+            joins = (len(parts) == 2 and joined.issuperset(parts)
+                     and name not in self.members)
             new = ("-" if joins else "_").join(parts)
             if not joins and new in taken:
                 new += "_lem"

@@ -28,9 +28,9 @@ counts : Counts products
 unfolding products products_within
 counts = record { none = refl; one_block = refl; two_blocks = refl; three_blocks = refl; more_blocks = products_more }
 
-hash-times : (t : ℕ) (Xs : List ℕ) → hash t Xs ≡ t · BRW 1 ◌·◌ t Xs
+hash_times : (t : ℕ) (Xs : List ℕ) → hash t Xs ≡ t · BRW 1 ◌·◌ t Xs
 unfolding hash
-hash-times t Xs = refl
+hash_times t Xs = refl
 
 pub hash_keeps : (t : ℕ) (Xs : List ℕ) → IsBlock t → IsBlock (hash t Xs)
 unfolding hash
@@ -54,7 +54,7 @@ theorems = record {
   clauses = clauses;
   counts = counts;
   products_half = products_half;
-  hash-times = hash-times;
+  hash_times = hash_times;
   hash_keeps = hash_keeps;
   hash_one = hash_one;
   example_hash = example_hash;

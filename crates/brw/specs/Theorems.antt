@@ -47,7 +47,7 @@ pub record Theorems : Type 0 where
   -- "Half the number of those blocks, rounded down", for every number of blocks.
   pub products_half : (m : ℕ) → products m ≡ m / 2
   -- The hash is t times the polynomial, and a block; of one block it is their product.
-  pub hash-times : (t : ℕ) (Xs : List ℕ) → hash t Xs ≡ t · BRW 1 ◌·◌ t Xs
+  pub hash_times : (t : ℕ) (Xs : List ℕ) → hash t Xs ≡ t · BRW 1 ◌·◌ t Xs
   pub hash_keeps : (t : ℕ) (Xs : List ℕ) → IsBlock t → IsBlock (hash t Xs)
   pub hash_one : (t X : ℕ) → hash t (X ∷ []) ≡ t · X
   -- Worked out by the checker, and by a program written apart from this one: eleven blocks, which take five products.

@@ -18,7 +18,7 @@ use Rattle.claims.specs.Demand3.{Demand3}
 use Rattle.claims.proofs.Keys.{is_key_lem}
 
 pub hch_tweakable : (key : List ℕ) → TweakableCipher 16 512 (hch.encipher key) (hch.decipher key)
-hch_tweakable key T h = (Hch.theorems).hch-cipher key T 512 h (omega arith)
+hch_tweakable key T h = (Hch.theorems).hch_cipher key T 512 h (omega arith)
 
 pub hch_pack : (key : List ℕ) → IsKey key → Pack hch key
 hch_pack key k = (Packs.theorems).any_cipher hch key (is_key_lem key k) (hch_tweakable key)

@@ -61,7 +61,7 @@ pub point_1 : Point1
 point_1 = record {
   find_done = λ n place pack p. done n pack p place;
   find_part = λ n place pack p. part_of n pack p place;
-  find_length = λ n place pack p h. (Layout.theorems).found-length place pack (done n pack p place h);
+  find_length = λ n place pack p h. (Layout.theorems).found_length place pack (done n pack p place h);
   find_10 = λ place pack none. not_found place pack (not_a_pack pack (is_pack pack) refl none);
   find_6 = λ n place pack p. past n pack p place;
   find_nothing = λ place pack. refused_left (of_finding place pack) (part place pack) [];

@@ -30,7 +30,7 @@ use Rattle.claims.proofs.Keys.{is_key_lem}
 use Rattle.claims.proofs.Demand1.{message_numbers, sealing_numbers, opening_numbers}
 
 forward_pack : (key : List ℕ) → IsKey key → Pack forward key
-forward_pack key k = (Packs.theorems).any_cipher forward key (is_key_lem key k) ((Forward.theorems).forward-cipher key 512 (omega arith))
+forward_pack key k = (Packs.theorems).any_cipher forward key (is_key_lem key k) ((Forward.theorems).forward_cipher key 512 (omega arith))
 
 -- The block's rule, for every function.
 function_block : (E : ℕ → ℕ) → BlockFunction E → (payload : List ℕ) (pack place : ℕ) → Bytes payload → length payload ≤ 496 → place ≤ 65535

@@ -92,9 +92,9 @@ pub record Demand1 : Type 0 where
   -- No other line is answered so.
   pub line_9_only : (line : List ℕ) → answer line ≡ refusal 9 → request_of line ≡ Unknown
   -- A line that is understood is answered as HCH's call answers.
-  pub line-enciphered : (line key tweak message : List ℕ) → request_of line ≡ Encipher key tweak message
+  pub line_enciphered : (line key tweak message : List ℕ) → request_of line ≡ Encipher key tweak message
       → answer line ≡ reply (of_hch key tweak message) (enciphered key tweak message)
-  pub line-deciphered : (line key tweak message : List ℕ) → request_of line ≡ Decipher key tweak message
+  pub line_deciphered : (line key tweak message : List ℕ) → request_of line ≡ Decipher key tweak message
       → answer line ≡ reply (of_hch key tweak message) (deciphered key tweak message)
   -- The library's numbers are 1 to 8 and, by 02, "All new numbers, here and later, come from the library", 10 to 13.
   pub library_numbers : (why : Refusal) → (0 < refusal_number why) × (refusal_number why ≤ 13) × (refusal_number why ≡ 9 → ⊥)

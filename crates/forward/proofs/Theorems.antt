@@ -42,9 +42,9 @@ by_function E keeps n l tweak t = Scheme.scheme_cipher (own_parts E keeps) (numb
 pub under-cipher : (expanded : ExpandedKey) (n : ℕ) → 33 ≤ n → TweakableCipher 16 n ((forward_under expanded).encipher []) ((forward_under expanded).decipher [])
 under-cipher expanded = by_function (under expanded).E ((Aes.theorems).under_permutation expanded).keeps
 
-forward-cipher : (key : List ℕ) (n : ℕ) → 33 ≤ n → TweakableCipher 16 n (enciphered key) (deciphered key)
+forward_cipher : (key : List ℕ) (n : ℕ) → 33 ≤ n → TweakableCipher 16 n (enciphered key) (deciphered key)
 unfolding enciphered deciphered
-forward-cipher key = by_function (aes key).E ((Aes.theorems).aes_permutation key).keeps
+forward_cipher key = by_function (aes key).E ((Aes.theorems).aes_permutation key).keeps
 
 pub same_expanded : (key : List ℕ) → forward.is_key key ≡ true → Same (forward_under (expanded_key key)) [] forward key
 unfolding enciphered deciphered
@@ -80,7 +80,7 @@ theorems = record {
   function_cipher = by_function;
   example_enciphered = example_enciphered;
   example_deciphered = example_deciphered;
-  forward-cipher = forward-cipher;
-  one_plaintext = λ key tweak n t l. one_preimage (forward-cipher key n l tweak t);
+  forward_cipher = forward_cipher;
+  one_plaintext = λ key tweak n t l. one_preimage (forward_cipher key n l tweak t);
   same_expanded = same_expanded;
 }

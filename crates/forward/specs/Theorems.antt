@@ -47,7 +47,7 @@ pub record Theorems : Type 0 where
   pub example_enciphered : encipher example_function times_x power_sum example_tweak example_plaintext ≡ example_ciphertext
   pub example_deciphered : decipher example_function times_x power_sum example_tweak example_ciphertext ≡ example_plaintext
   -- AES's encryption is one of them: the scheme, for every key and every tweak of 16 bytes.
-  pub forward-cipher : (key : List ℕ) (n : ℕ) → 33 ≤ n → TweakableCipher 16 n (enciphered key) (deciphered key)
+  pub forward_cipher : (key : List ℕ) (n : ℕ) → 33 ≤ n → TweakableCipher 16 n (enciphered key) (deciphered key)
   pub one_plaintext : (key tweak : List ℕ) (n : ℕ) → OfLength 16 tweak → 33 ≤ n
       → (C : List ℕ) → OfLength n C → OnePreimage n (enciphered key tweak) C (deciphered key tweak C)
   -- The scheme under what is made of a key, of either length, is the scheme under the key.

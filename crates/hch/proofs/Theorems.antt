@@ -51,13 +51,13 @@ pub under-cipher : (expanded : ExpandedKey) (tweak : List ℕ) (n : ℕ) → OfL
     → Cipher n (enciphered_by (under expanded) tweak) (deciphered_by (under expanded) tweak)
 under-cipher expanded = by_cipher (under expanded) ((Aes.theorems).under_permutation expanded)
 
-pub hch-cipher : (key tweak : List ℕ) (n : ℕ) → OfLength 16 tweak → 16 ≤ n → Cipher n (enciphered key tweak) (deciphered key tweak)
+pub hch_cipher : (key tweak : List ℕ) (n : ℕ) → OfLength 16 tweak → 16 ≤ n → Cipher n (enciphered key tweak) (deciphered key tweak)
 unfolding enciphered deciphered
-hch-cipher key = by_cipher (aes key) ((Aes.theorems).aes_permutation key)
+hch_cipher key = by_cipher (aes key) ((Aes.theorems).aes_permutation key)
 
 one_plaintext : (key tweak : List ℕ) (n : ℕ) → OfLength 16 tweak → 16 ≤ n
     → (C : List ℕ) → OfLength n C → OnePreimage n (enciphered key tweak) C (deciphered key tweak C)
-one_plaintext key tweak n h l C k = one_preimage (hch-cipher key tweak n h l) C k
+one_plaintext key tweak n h l C k = one_preimage (hch_cipher key tweak n h l) C k
 
 pub same_expanded : (key : List ℕ) → hch.is_key key ≡ true → Same (hch_under (expanded_key key)) [] hch key
 unfolding enciphered deciphered
@@ -80,7 +80,7 @@ theorems = record {
   one_block = one_block;
   own_parts = own_parts;
   permutation_one_plaintext = λ c p T n h l. one_preimage (scheme_cipher (own_parts c p) T n h l);
-  hch-cipher = hch-cipher;
+  hch_cipher = hch_cipher;
   one_plaintext = one_plaintext;
   same_expanded = same_expanded;
 }

@@ -27,7 +27,7 @@ pub record Theorems : Type 0 where
   pub permutation_one_plaintext : (c : BlockCipher) → BlockPermutation c → (T n : ℕ) → IsBlock T → 16 ≤ n
       → (C : List ℕ) → OfLength n C → OnePreimage n (encipher c.E times_x power_sum T) C (decipher c.E c.D times_x power_sum T C)
   -- AES is one of them: HCH, for every key and every tweak of 16 bytes. The second is the first half of demand 3.
-  pub hch-cipher : (key tweak : List ℕ) (n : ℕ) → OfLength 16 tweak → 16 ≤ n → Cipher n (enciphered key tweak) (deciphered key tweak)
+  pub hch_cipher : (key tweak : List ℕ) (n : ℕ) → OfLength 16 tweak → 16 ≤ n → Cipher n (enciphered key tweak) (deciphered key tweak)
   pub one_plaintext : (key tweak : List ℕ) (n : ℕ) → OfLength 16 tweak → 16 ≤ n
       → (C : List ℕ) → OfLength n C → OnePreimage n (enciphered key tweak) C (deciphered key tweak C)
   -- HCH under what is made of a key, of either length, is HCH under the key.

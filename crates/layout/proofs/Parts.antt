@@ -186,8 +186,8 @@ if_done : (number : ℕ) (a b : List ℕ) → (number ≡ 0 → a ≡ b) → lef
 if_done zero a b same = same refl
 if_done (suc n) a b same = refl
 
-pub found-length : (place : ℕ) (pack : List ℕ) → answer_of place pack ≡ Done → length (found place pack) ≡ 512
-found-length place pack e = rw e (part_length place pack (found_within place pack e))
+pub found_length : (place : ℕ) (pack : List ℕ) → answer_of place pack ≡ Done → length (found place pack) ≡ 512
+found_length place pack e = rw e (part_length place pack (found_within place pack e))
 
 module _ (place : ℕ) (block pack : List ℕ) (done : answer_of place pack ≡ Done) (long : length block ≡ 512) where
   room : 512 * place + 512 ≤ length pack

@@ -11,7 +11,7 @@ pub record Theorems : Type 0 where
   pub same_parts : (pack other : List ℕ) → is_pack pack ≡ true → length pack ≡ length other
       → ((place : ℕ) → place < block_count pack → found place pack ≡ found place other) → pack ≡ other
   -- A part that is found is a block.
-  pub found-length : (place : ℕ) (pack : List ℕ) → number_of (answer_of place pack) ≡ 0 → length (found place pack) ≡ 512
+  pub found_length : (place : ℕ) (pack : List ℕ) → number_of (answer_of place pack) ≡ 0 → length (found place pack) ≡ 512
   -- Parts of different places have no byte in common: if byte i of the one and byte j of the other stand at one address, it is one place, and one byte of it.
   pub parts_apart : (p q : ℕ) (pack r s : Bor (List ℕ)) → number_of (answer_of p pack.now) ≡ 0 → number_of (answer_of q pack.now) ≡ 0
       → BeginsAt p pack r → BeginsAt q pack s → (i j : ℕ) → i < 512 → j < 512 → address r i ≡ address s j → (p ≡ q) × (i ≡ j)

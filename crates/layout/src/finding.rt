@@ -42,8 +42,7 @@ pub fn find(pack: &[u8], place: u32) -> &[u8]
     &pack[0..0]
 }
 
-// The same part, to be written to. That the pack is not written to here is for a reader to see: a contract has no value for a pack that is lent for writing
-// and goes into the result.
+// The same part, to be written to. That the pack is not written to here is for a reader to see: no clause says what is left of a pack whose part is handed out.
 pub fn find_mut(pack: &mut [u8], place: u32) -> &mut [u8]
     ensures result_value { result.now ≡ found place pack.old }
     ensures begins_at { BeginsAt place (as_bor pack.entry) (as_bor result) }

@@ -92,17 +92,17 @@ module _ (boxes : Permutation Byte s_box inv_s_box) where
   unfolding sub_bytes inv_sub_bytes
   sub_bytes_lem = step (by_bytes boxes) (by_bytes (backwards boxes))
 
-  module _ (roundKeys : ℕ → List ℕ) (states : (i : ℕ) → State (roundKeys i)) where
+  module _ (round_keys : ℕ → List ℕ) (states : (i : ℕ) → State (round_keys i)) where
     -- n rounds, and the next one up to its mixing
-    rounds_permutation : (n : ℕ) → Permutation State (λ s. shift_rows (sub_bytes (rounds roundKeys n s))) (inv_rounds roundKeys n)
+    rounds_permutation : (n : ℕ) → Permutation State (λ s. shift_rows (sub_bytes (rounds round_keys n s))) (inv_rounds round_keys n)
     unfolding rounds inv_rounds
-    rounds_permutation zero = then (add_round_key_lem (roundKeys 0) (states 0)) (then sub_bytes_lem shift_rows_lem)
+    rounds_permutation zero = then (add_round_key_lem (round_keys 0) (states 0)) (then sub_bytes_lem shift_rows_lem)
     rounds_permutation (suc n) =
-        then (rounds_permutation n) (then mix_columns_lem (then (add_round_key_lem (roundKeys (suc n)) (states (suc n))) (then sub_bytes_lem shift_rows_lem)))
+        then (rounds_permutation n) (then mix_columns_lem (then (add_round_key_lem (round_keys (suc n)) (states (suc n))) (then sub_bytes_lem shift_rows_lem)))
 
-    pub cipher_permutation : (Nr : ℕ) → Permutation State (cipher roundKeys Nr) (inv_cipher roundKeys Nr)
+    pub cipher_permutation : (Nr : ℕ) → Permutation State (cipher round_keys Nr) (inv_cipher round_keys Nr)
     unfolding cipher inv_cipher
-    cipher_permutation Nr = then (rounds_permutation (Nr - 1)) (add_round_key_lem (roundKeys Nr) (states Nr))
+    cipher_permutation Nr = then (rounds_permutation (Nr - 1)) (add_round_key_lem (round_keys Nr) (states Nr))
 
   pub block_permutation : (Nr : ℕ) (w : List ℕ) → Permutation IsBlock (encipher Nr w) (decipher Nr w)
   unfolding encipher decipher

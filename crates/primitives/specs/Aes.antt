@@ -1,6 +1,6 @@
 -- AES of FIPS 197, by its names and in the order of its sections. A state is a list of 16 bytes; a word of the key is a number below 2 ^ 32
 -- and a block one below 2 ^ 128, the first byte highest.
-use Rattle.std.specs.Prelude.{ℕ, zero, suc, ◌+◌, ◌-◌, ◌*◌, ◌/◌, ◌%◌, ◌^◌, ◌<◌, Bool, true, false, ◌&&◌, ◌||◌, List, [], ◌∷◌, ◌++◌, length, ◌==◌, nat_lt, slice_index, slice_index_or}
+use Rattle.std.specs.Prelude.{ℕ, zero, suc, ◌+◌, ◌-◌, ◌*◌, ◌/◌, ◌%◌, ◌^◌, ◌<◌, Bool, true, false, ◌&&◌, ◌||◌, List, [], ◌∷◌, ◌++◌, length, ◌==◌, nat_lt, slice_index}
 use Rattle.strings.specs.Xor.{◌⊕◌}
 use Rattle.strings.specs.Bytes.{OfLength, number, bytes}
 use Rattle.blocks.specs.Field.{product, power}
@@ -78,17 +78,17 @@ mix_columns s = state (λ r c. mixed (at s r c) (at s ((r + 1) % 4) c) (at s ((r
 unfoldable pub add_round_key : List ℕ → List ℕ → List ℕ
 add_round_key k s = state (λ r c. at s r c ⊕ at k r c)
 
-module _ (roundKeys : ℕ → List ℕ) where
+module _ (round_keys : ℕ → List ℕ) where
   -- Round n, and the last one, which has no mixing.
   abbrev pub round : ℕ → List ℕ → List ℕ
-  round n s = add_round_key (roundKeys n) (mix_columns (shift_rows (sub_bytes s)))
+  round n s = add_round_key (round_keys n) (mix_columns (shift_rows (sub_bytes s)))
 
   abbrev pub last_round : ℕ → List ℕ → List ℕ
-  last_round n s = add_round_key (roundKeys n) (shift_rows (sub_bytes s))
+  last_round n s = add_round_key (round_keys n) (shift_rows (sub_bytes s))
 
   -- The first round key is added, and n rounds follow.
   unfoldable pub rounds : ℕ → List ℕ → List ℕ
-  rounds zero s = add_round_key (roundKeys 0) s
+  rounds zero s = add_round_key (round_keys 0) s
   rounds (suc n) s = round (suc n) (rounds n s)
 
   -- Cipher with Nr rounds.
@@ -134,7 +134,7 @@ own_word key i = word (slice_index key (4 * i)) (slice_index key (4 * i + 1)) (s
 
 -- Word i of the expanded key, from the words before it: the first Nk are the key's own.
 unfoldable pub key_word : ℕ → List ℕ → ℕ → List ℕ → ℕ
-key_word Nk key i w = choose (nat_lt i Nk) (own_word key i) (slice_index_or w (i - Nk) 0 ⊕ temp Nk i (slice_index w (i - 1)))
+key_word Nk key i w = choose (nat_lt i Nk) (own_word key i) (slice_index w (i - Nk) ⊕ temp Nk i (slice_index w (i - 1)))
 
 -- The first n words.
 unfoldable pub key_words : ℕ → List ℕ → ℕ → List ℕ
@@ -172,13 +172,13 @@ unfoldable pub inv_mix_columns : List ℕ → List ℕ
 inv_mix_columns s = state (λ r c. inv_mixed (at s r c) (at s ((r + 1) % 4) c) (at s ((r + 2) % 4) c) (at s ((r + 3) % 4) c))
 
 -- AddRoundKey is its own inverse, 5.3.4.
-module _ (roundKeys : ℕ → List ℕ) where
+module _ (round_keys : ℕ → List ℕ) where
   -- Round n, and the last one, which has no mixing.
   abbrev pub inv_round : ℕ → List ℕ → List ℕ
-  inv_round n s = inv_mix_columns (add_round_key (roundKeys n) (inv_sub_bytes (inv_shift_rows s)))
+  inv_round n s = inv_mix_columns (add_round_key (round_keys n) (inv_sub_bytes (inv_shift_rows s)))
 
   abbrev pub inv_last_round : ℕ → List ℕ → List ℕ
-  inv_last_round n s = add_round_key (roundKeys n) (inv_sub_bytes (inv_shift_rows s))
+  inv_last_round n s = add_round_key (round_keys n) (inv_sub_bytes (inv_shift_rows s))
 
   -- Rounds n down to 0.
   unfoldable pub inv_rounds : ℕ → List ℕ → List ℕ
@@ -187,7 +187,7 @@ module _ (roundKeys : ℕ → List ℕ) where
 
   -- InvCipher with Nr rounds.
   unfoldable pub inv_cipher : ℕ → List ℕ → List ℕ
-  inv_cipher Nr s = inv_rounds (Nr - 1) (add_round_key (roundKeys Nr) s)
+  inv_cipher Nr s = inv_rounds (Nr - 1) (add_round_key (round_keys Nr) s)
 
 -- ---- blocks
 

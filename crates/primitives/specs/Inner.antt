@@ -1,5 +1,5 @@
 -- What the contracts of inner functions cite: nobody has to believe it.
-use Rattle.std.specs.Prelude.{◌≡◌, ℕ, ◌+◌, ◌%◌, ◌<◌, ◌≤◌, List, [], ◌∷◌, slice_index, slice_index_or}
+use Rattle.std.specs.Prelude.{◌≡◌, ℕ, ◌+◌, ◌%◌, ◌<◌, ◌≤◌, List, [], ◌∷◌, slice_index}
 use Rattle.strings.specs.Xor.{◌⊕◌}
 use Rattle.strings.specs.Bytes.{bytes}
 use Rattle.primitives.specs.Aes.{◌•◌, at, state, byte_of, s_box, inv_s_box, rot_word, Nr}
@@ -40,7 +40,7 @@ InvCipherTables table mixing = Table inv_s_box table × MixingTable (λ b. 0x0e 
 -- What the table makes of a column: what is added from a lower row stands as many rows lower.
 unfoldable pub column_by : List ℕ → ℕ → ℕ
 column_by t w =
-    slice_index_or t (byte_of w 0) 0 ⊕ rot_word (rot_word (rot_word (slice_index t (byte_of w 1)))) ⊕ rot_word (rot_word (slice_index t (byte_of w 2))) ⊕ rot_word (slice_index t (byte_of w 3))
+    slice_index t (byte_of w 0) ⊕ rot_word (rot_word (rot_word (slice_index t (byte_of w 1)))) ⊕ rot_word (rot_word (slice_index t (byte_of w 2))) ⊕ rot_word (slice_index t (byte_of w 3))
 
 -- x has the columns of s mixed by t, for every mixing whose table t is.
 abbrev pub MixedBy : List ℕ → List ℕ → List ℕ → Type 0

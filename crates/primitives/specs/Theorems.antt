@@ -22,8 +22,8 @@ pub record Theorems : Type 0 where
   pub mix_columns_lem : Permutation State mix_columns inv_mix_columns
   pub add_round_key_lem : (k : List ℕ) → State k → Permutation State (add_round_key k) (add_round_key k)
   -- So is the cipher, with any round keys and any number of rounds, and AES under every key.
-  pub cipher_permutation : (roundKeys : ℕ → List ℕ) → ((i : ℕ) → State (roundKeys i)) → (Nr : ℕ)
-      → Permutation State (cipher roundKeys Nr) (inv_cipher roundKeys Nr)
+  pub cipher_permutation : (round_keys : ℕ → List ℕ) → ((i : ℕ) → State (round_keys i)) → (Nr : ℕ)
+      → Permutation State (cipher round_keys Nr) (inv_cipher round_keys Nr)
   pub words_permutation : (Nr : ℕ) (w : List ℕ) → Permutation IsBlock (encipher Nr w) (decipher Nr w)
   pub aes_permutation : (key : List ℕ) → BlockPermutation (aes key)
   -- So is what an expanded key stands for, whatever is in it; and what is made of a key of either length stands for AES under that key.

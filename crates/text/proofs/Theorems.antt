@@ -9,6 +9,6 @@ theorems = record {
   bytes_back = unhex-hex;
   digits_of_bytes = is_hex-hex;
   text_back = hex-unhex;
-  append-bytes = bytes_twice;
+  append_bytes = bytes_twice;
   append_kept = kept_twice;
 }

@@ -11,7 +11,7 @@ pub record Theorems : Type 0 where
   pub digits_of_bytes : (bs : List ℕ) → Bytes bs → is_hex (hex bs) ≡ true
   pub text_back : (s : List ℕ) → is_hex s ≡ true → hex (unhex s) ≡ s
   -- A line that goes on with two parts, one after the other, is the line that goes on with both: its bytes, and what is kept.
-  pub append-bytes : (line : List ℕ) (kept : Kept) (a b : List ℕ)
+  pub append_bytes : (line : List ℕ) (kept : Kept) (a b : List ℕ)
       → line_with (line_with line kept a) (kept_with line kept a) b ≡ line_with line kept (a ++ b)
   pub append_kept : (line : List ℕ) (kept : Kept) (a b : List ℕ)
       → kept_with (line_with line kept a) (kept_with line kept a) b ≡ kept_with line kept (a ++ b)
