@@ -10,26 +10,19 @@ use Rattle.forward.proofs.decipher_message.Goals as goal
 
 pub returns : goal.returns
 returns c =
-    let f = c in
-    let m = f in
-    let x = m in
-    let h = x in
-    let r = h in
-    let k = r in
-    let start = k in
-    let E = (under start.args.expanded).E in
+    let E = (under c.args.expanded).E in
     simp (
-      f.finish.ensures,
-      m.sum.ensures,
-      ap (λ (p : ℕ × ℕ). p.0) x.swapped_feistel-a.ensures,
-      ap (λ (p : ℕ × ℕ). p.1) x.swapped_feistel-a.ensures,
-      ap (λ (p : ℕ × ℕ). p.0) h.hash-b.ensures,
-      ap (λ (p : ℕ × ℕ). p.1) h.hash-b.ensures,
-      ap (λ (p : ℕ × ℕ). p.0) r.first_two.ensures,
-      ap (λ (p : ℕ × ℕ). p.1) r.first_two.ensures,
-      ap (λ (K : HashKey). K.τ) k.key_def1-key.ensures,
-      ap (λ (K : HashKey). K.τ') k.key_def1-key.ensures,
-      ap (λ (K : HashKey). K.β₁) k.key_def1-key.ensures,
-      ap (λ (K : HashKey). K.β₂) k.key_def1-key.ensures,
+      c.finish.ensures,
+      c.sum.ensures,
+      ap (λ (p : ℕ × ℕ). p.0) c.swapped_feistel-a.ensures,
+      ap (λ (p : ℕ × ℕ). p.1) c.swapped_feistel-a.ensures,
+      ap (λ (p : ℕ × ℕ). p.0) c.hash-b.ensures,
+      ap (λ (p : ℕ × ℕ). p.1) c.hash-b.ensures,
+      ap (λ (p : ℕ × ℕ). p.0) c.first_two.ensures,
+      ap (λ (p : ℕ × ℕ). p.1) c.first_two.ensures,
+      ap (λ (K : HashKey). K.τ) c.key_def1-key.ensures,
+      ap (λ (K : HashKey). K.τ') c.key_def1-key.ensures,
+      ap (λ (K : HashKey). K.β₁) c.key_def1-key.ensures,
+      ap (λ (K : HashKey). K.β₂) c.key_def1-key.ensures,
     )
-    (deciphering E times_x power_sum (value start.args.tweak) start.args.message.now start.requires.0)
+    (deciphering E times_x power_sum (value c.args.tweak) c.args.message.now c.requires.0)

@@ -11,18 +11,13 @@ use Rattle.forward.proofs.finish.Goals as goal
 pub returns : goal.returns
 unfolding mctr_bytes
 returns c =
-    let w2 = c in
-    let w = w2 in
-    let h = w in
-    let k = h in
-    let start = k in
-    let args = start.args in
+    let args = c.args in
     simp (
-      w2.write-2.ensures,
-      w.write.ensures,
-      ap (λ (p : ℕ × ℕ). p.0) h.hash-front.ensures,
-      ap (λ (p : ℕ × ℕ). p.1) h.hash-front.ensures,
-      k.modified_counter.ensures,
+      c.write-2.ensures,
+      c.write.ensures,
+      ap (λ (p : ℕ × ℕ). p.0) c.hash-front.ensures,
+      ap (λ (p : ℕ × ℕ). p.1) c.hash-front.ensures,
+      c.modified_counter.ensures,
     )
     (finished (under args.expanded).E times_x power_sum (value args.key.tau) (value args.key.beta1) (value args.beta) (value args.m) (values args.two)
-    args.message.now start.requires)
+    args.message.now c.requires)

@@ -6,13 +6,11 @@ use Rattle.forward.proofs.hash.Goals as goal
 pub returns : goal.returns
 unfolding Υ
 returns c =
-    let first = c in
-    let z = first in
     rw (
       c.xor-4.ensures,
       c.xor-3.ensures,
-      first.xor-2.ensures,
-      first.xor.ensures,
-      z.power_sum-z.ensures,
-      part_behind 32 z.args.message.now,
+      c.xor-2.ensures,
+      c.xor.ensures,
+      c.power_sum-z.ensures,
+      part_behind 32 c.args.message.now,
     )

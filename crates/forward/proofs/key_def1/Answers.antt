@@ -6,15 +6,11 @@ use Rattle.forward.proofs.key_def1.Goals as goal
 pub returns : goal.returns
 unfolding KeyDef1 φ
 returns c =
-    let x2 = c in
-    let x = x2 in
-    let e2 = x in
-    let bin = e2 in
     rw (
       c.encipher-tau_prime.ensures,
-      x2.times_x.ensures,
-      x.times_x-beta2.ensures,
-      e2.encipher-beta1.ensures,
-      bin.xor_bin.ensures,
-      bin.encipher-gamma.ensures,
+      c.times_x.ensures,
+      c.times_x-beta2.ensures,
+      c.encipher-beta1.ensures,
+      c.xor_bin.ensures,
+      c.encipher-gamma.ensures,
     )

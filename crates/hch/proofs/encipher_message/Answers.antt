@@ -7,23 +7,15 @@ use Rattle.hch.proofs.encipher_message.Goals as goal
 
 pub returns : goal.returns
 returns c =
-    let f = c in
-    let x = f in
-    let e2 = x in
-    let h = e2 in
-    let r = h in
-    let l = r in
-    let e = l in
-    let start = e in
-    let cipher = under start.args.expanded in
+    let cipher = under c.args.expanded in
     simp (
-      f.finish.ensures,
-      x.xor.ensures,
-      x.times_x-xq.ensures,
-      e2.encipher-u1.ensures,
-      h.hash-m1.ensures,
-      r.read.ensures,
-      l.hash_q-q.ensures,
-      e.encipher-r.ensures,
+      c.finish.ensures,
+      c.xor.ensures,
+      c.times_x-xq.ensures,
+      c.encipher-u1.ensures,
+      c.hash-m1.ensures,
+      c.read.ensures,
+      c.hash_q-q.ensures,
+      c.encipher-r.ensures,
     )
-    (enciphering cipher.E times_x power_sum (value start.args.tweak) start.args.message.now start.requires.0)
+    (enciphering cipher.E times_x power_sum (value c.args.tweak) c.args.message.now c.requires.0)

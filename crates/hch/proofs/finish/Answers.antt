@@ -9,11 +9,6 @@ use Rattle.hch.proofs.finish.Goals as goal
 pub returns : goal.returns
 unfolding ctr_bytes
 returns c =
-    let w = c in
-    let h = w in
-    let k = h in
-    let e = k in
-    let start = e in
-    let args = start.args in
-    simp (w.write.ensures, h.hash.ensures, k.counter.ensures, e.encipher-s.ensures)
-    (finished (under args.expanded).E power_sum (value args.r) (value args.q) (value args.i) (value args.first) args.message.now start.requires)
+    let args = c.args in
+    simp (c.write.ensures, c.hash.ensures, c.counter.ensures, c.encipher-s.ensures)
+    (finished (under args.expanded).E power_sum (value args.r) (value args.q) (value args.i) (value args.first) args.message.now c.requires)

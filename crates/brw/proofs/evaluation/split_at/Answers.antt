@@ -1,5 +1,4 @@
 -- The exponent of the largest power is the place of the highest 1 of the number of blocks.
--- The number of blocks, as the code has it, and the place of its highest 1.
 use Prim.Native.Nat.{ℕ, ◌+◌, ◌-◌, ◌*◌, ◌/◌, ◌%◌, ◌^◌, ◌≤◌, ◌<◌, min}
 use mathlib.Core.Path.{◌≡◌}
 use native.Mathlib.Omega.{arith}

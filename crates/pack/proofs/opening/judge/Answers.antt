@@ -8,6 +8,5 @@ use Rattle.pack.proofs.opening.judge.Goals as goal
 pub returns : goal.returns
 unfolding tests in_turn
 returns c =
-    let first = c in
-    let a = first.args in
-    λ S key pack. rw (c.refuse_if-2.ensures, first.refuse_if.ensures) (in_turn_lem (take 2 (drop 1 (tests S key pack a.place a.block.now))))
+    let a = c.args in
+    λ S key pack. rw (c.refuse_if-2.ensures, c.refuse_if.ensures) (in_turn_lem (take 2 (drop 1 (tests S key pack a.place a.block.now))))

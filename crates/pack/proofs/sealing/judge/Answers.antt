@@ -8,10 +8,6 @@ use Rattle.pack.proofs.sealing.judge.Goals as goal
 pub returns : goal.returns
 unfolding tests in_turn
 returns c =
-    let third = c in
-    let second = third in
-    let first = second in
-    let asked = first in
-    let a = asked.args in
-    rw (c.refuse_if-4.ensures, third.refuse_if-3.ensures, second.refuse_if-2.ensures, first.refuse_if.ensures, asked.is_key-valid.ensures)
+    let a = c.args in
+    rw (c.refuse_if-4.ensures, c.refuse_if-3.ensures, c.refuse_if-2.ensures, c.refuse_if.ensures, c.is_key-valid.ensures)
     (in_turn_lem (tests (scheme_of a.name) a.key.now a.payload.now a.place a.block.now))

@@ -1,5 +1,4 @@
 -- Where no test holds, the plain block is laid out and enciphered under its tweak; a refusal leaves the block.
--- What the tests tell where the call is done.
 use Prim.Native.Nat.{ℕ}
 use mathlib.Core.Path.{◌≡◌, sym, ap, ◌∙◌}
 use mathlib.Core.List.{List}

@@ -14,10 +14,8 @@ returns c =
     let h = c.args.h in
     let v : ℕ = value h in
     let below : v < 2 ^ 128 = value_below h (search rules) (search rules) in
-    let c₂ = c in
-    let c₁ = c₂ in
-    let one : value c₁.shifted.result ≡ v * 2 ^ 1 % 2 ^ 128 = c₁.shifted.ensures in
-    let two : value c₂.shifted-2.result ≡ v * 2 ^ 2 % 2 ^ 128 = c₂.shifted-2.ensures in
+    let one : value c.shifted.result ≡ v * 2 ^ 1 % 2 ^ 128 = c.shifted.ensures in
+    let two : value c.shifted-2.result ≡ v * 2 ^ 2 % 2 ^ 128 = c.shifted-2.ensures in
     let seven : value c.shifted-3.result ≡ v * 2 ^ 7 % 2 ^ 128 = c.shifted-3.ensures in
-    c.xor-3.ensures ∙ ap₂ ◌⊕◌ (c₂.xor-2.ensures ∙ ap₂ ◌⊕◌ (c₁.xor.ensures ∙ ap (λ (x : ℕ). v ⊕ x) one) two) seven
+    c.xor-3.ensures ∙ ap₂ ◌⊕◌ (c.xor-2.ensures ∙ ap₂ ◌⊕◌ (c.xor.ensures ∙ ap (λ (x : ℕ). v ⊕ x) one) two) seven
     ∙ spread_low 128 v (lit< tt) below

@@ -11,12 +11,10 @@ unfolding value
 returns c =
     let low_a : c.args.a.lo < 2 ^ 64 = search rules in
     let low_b : c.args.b.lo < 2 ^ 64 = search rules in
-    let p2 = c in
-    let s = p2 in
-    let a = s.args.a in
-    let b = s.args.b in
-    let ea = p2.parts-x.ensures in
-    let eb = p2.parts-y.ensures in
+    let a = c.args.a in
+    let b = c.args.b in
+    let ea = c.parts-x.ensures in
+    let eb = c.parts-y.ensures in
     let products : Products c.products.result c.words.result a.lo a.hi b.lo b.hi =
     record {
       eight = λ i h. rw (ea, eb) at (c.products.ensures i h);

@@ -1,5 +1,4 @@
 -- The four rows of products, each cut to its places, are the carry-less product.
--- A part is at most its mask, so a product of two fits where that of the masks does. The masks are read off the code.
 use mathlib.Core.Path.{◌≡◌}
 use Prim.Native.Nat.{ℕ}
 use borrow.Author.Rules.{rules}

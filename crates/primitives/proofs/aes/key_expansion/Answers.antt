@@ -8,12 +8,11 @@ use Rattle.primitives.proofs.aes.key_expansion.Goals as goal
 pub loop-i-preserved : goal.loop-i-preserved
 unfolding ◌⊕◌
 loop-i-preserved c =
-    let temp = c in
-    let l = temp.loop-i in
-    let a = temp.args in
-    let v = get_or l.words (l.i - a.nk) 0 ⊕ temp.temp.result in
+    let l = c.loop-i in
+    let a = c.args in
+    let v = get_or l.words (l.i - a.nk) 0 ⊕ c.temp.result in
     let last : l.i + 1 - 1 ≡ l.i = omega arith in (
-      put_next 60 a.nk a.key.now l.i l.words l.invariant.0 v (omega arith) (omega arith) l.invariant.4 (rw (temp.temp.ensures, ← l.invariant.2, l.invariant.1)),
+      put_next 60 a.nk a.key.now l.i l.words l.invariant.0 v (omega arith) (omega arith) l.invariant.4 (rw (c.temp.ensures, ← l.invariant.2, l.invariant.1)),
       rw last (sym (get_or-set_same l.words l.i v 0 (rw (length_held 60 a.nk a.key.now l.i l.words l.invariant.0 (omega arith)) (omega arith)))),
       ap (λ (n : ℕ). n + 1) l.invariant.2 ∙ sym c.next_place-behind.ensures.m_value,
       c.next_place-behind.ensures.m_lt_nk,

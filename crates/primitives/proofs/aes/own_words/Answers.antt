@@ -10,15 +10,13 @@ loop-i-init c = (omega arith, refl)
 
 pub overflow_cast-words : goal.overflow_cast-words
 overflow_cast-words c =
-    let known = c in
-    record { fits = read_fits c.loop-i.i known.args.key.now (λ k. (known.shared_slice_known-1.given k).fits) c.get.ensures }
+    record { fits = read_fits c.loop-i.i c.args.key.now (λ k. (c.shared_slice_known-1.given k).fits) c.get.ensures }
 
 pub loop-i-preserved : goal.loop-i-preserved
 loop-i-preserved c =
     let l = c.loop-i in
-    let known = c in
-    let a = known.args in (
+    let a = c.args in (
       omega arith,
       put_own 60 a.nk a.key.now l.i l.words l.invariant.1 c.get.result (omega arith) (omega arith)
-          (c.get.ensures ∙ read_own l.i a.key.now (λ k. (known.shared_slice_known-1.given k).fits)),
+          (c.get.ensures ∙ read_own l.i a.key.now (λ k. (c.shared_slice_known-1.given k).fits)),
     )

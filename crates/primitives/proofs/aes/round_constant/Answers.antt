@@ -9,5 +9,4 @@ use Rattle.primitives.proofs.aes.round_constant.Goals as goal
 pub returns : goal.returns
 unfolding ◌⊕◌ times01 times_x product_n product doubles rcon word
 returns c =
-    let start = c in
-    rw c.word.ensures (ap (λ (b : ℕ). word b 0 0 0) (constant {n = 10} refl (start.args.j - 1) (omega (arith, start.requires))))
+    rw c.word.ensures (ap (λ (b : ℕ). word b 0 0 0) (constant {n = 10} refl (c.args.j - 1) (omega (arith, c.requires))))

@@ -8,31 +8,25 @@ use Rattle.primitives.proofs.aes.temp.Goals as goal
 pub returns-then-place-eq0 : goal.returns-then-place-eq0
 unfolding ◌⊕◌
 returns-then-place-eq0 c =
-    let substituted = c in
-    let tested = substituted in
-    let start = tested in
-    let a = start.args in
-    rw (c.round_constant.ensures, substituted.sub_word.ensures, substituted.rot_word.ensures, temp_place a.nk a.place.j a.place.m a.before start.requires.3, tested.if-place-eq0.true)
+    let a = c.args in
+    rw (c.round_constant.ensures, c.sub_word.ensures, c.rot_word.ensures, temp_place a.nk a.place.j a.place.m a.before c.requires.3, c.if-place-eq0.true)
 
 pub returns-then-nk-le6 : goal.returns-then-nk-le6
 returns-then-nk-le6 c =
-    let start = c in
-    let a = start.args in
-    rw (temp_place a.nk a.place.j a.place.m a.before start.requires.3, ne_eqb a.place.m 0 c.if-place-eq0.false, le-ltb 6 a.nk c.if-nk-le6.true)
+    let a = c.args in
+    rw (temp_place a.nk a.place.j a.place.m a.before c.requires.3, ne_eqb a.place.m 0 c.if-place-eq0.false, le-ltb 6 a.nk c.if-nk-le6.true)
 
 pub returns-then-place-ne4 : goal.returns-then-place-ne4
 returns-then-place-ne4 c =
-    let start = c in
-    let a = start.args in
-    rw (temp_place a.nk a.place.j a.place.m a.before start.requires.3, ne_eqb a.place.m 0 c.if-place-eq0.false, ne_eqb a.place.m 4 c.if-place-ne4.true, and-false)
+    let a = c.args in
+    rw (temp_place a.nk a.place.j a.place.m a.before c.requires.3, ne_eqb a.place.m 0 c.if-place-eq0.false, ne_eqb a.place.m 4 c.if-place-ne4.true, and-false)
 
 pub returns : goal.returns
 returns c =
-    let start = c in
-    let a = start.args in
+    let a = c.args in
     rw (
       c.sub_word-2.ensures,
-      temp_place a.nk a.place.j a.place.m a.before start.requires.3,
+      temp_place a.nk a.place.j a.place.m a.before c.requires.3,
       ne_eqb a.place.m 0 c.if-place-eq0.false,
       lt-ltb 6 a.nk (omega (arith, c.if-nk-le6.false)),
       c.if-place-ne4.false,

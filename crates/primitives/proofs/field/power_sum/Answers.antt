@@ -13,16 +13,14 @@ use Rattle.primitives.proofs.field.power_sum.Goals as goal
 
 pub loop-at-preserved : goal.loop-at-preserved
 loop-at-preserved c =
-    let read = c in
-    let test = read in
-    let l = test.loop-at in
-    let args = test.args in
+    let l = c.loop-at in
+    let args = c.args in
     let s = args.s.now in
     let R : ℕ = value args.r in
-    let next : value read.read.result ≡ first_block (drop l.at s) = rw (part_behind l.at s) at read.read.ensures in
+    let next : value c.read.result ≡ first_block (drop l.at s) = rw (part_behind l.at s) at c.read.ensures in
     let turn : value c.product-sum.result ≡ (value l.sum ⊕ first_block (drop l.at s)) · R =
     c.product-sum.ensures ∙ ap (λ (x : ℕ). x · R) (c.xor.ensures ∙ ap (λ (x : ℕ). value l.sum ⊕ x) next) in
-    rw turn (sym (horner-next ◌·◌ R (value l.sum) l.at s test.loop-at-test.true) ∙ l.invariant)
+    rw turn (sym (horner-next ◌·◌ R (value l.sum) l.at s c.loop-at-test.true) ∙ l.invariant)
 
 pub returns : goal.returns
 unfolding horner

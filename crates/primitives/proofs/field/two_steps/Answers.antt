@@ -1,5 +1,4 @@
 -- The sum of two products, reduced once.
--- what is known of each factor
 use Rattle.std.proofs.Common.{◌≡◌, ℕ, ◌+◌, ◌*◌, ◌^◌, ◌<◌, ap, ◌∙◌, ap₂, lit<, rules}
 use Rattle.strings.specs.Xor.{◌⊕◌}
 use Rattle.blocks.specs.Blocks.{first_block}
@@ -12,11 +11,7 @@ use Rattle.primitives.proofs.field.two_steps.Goals as goal
 
 pub returns : goal.returns
 returns c =
-    let two = c in
-    let sum = two in
-    let next = sum in
-    let start = next in
-    let args = start.args in
+    let args = c.args in
     let s = args.s.now in
     let R : ℕ = value args.r in
     let R² : ℕ = value args.r2 in
@@ -24,10 +19,10 @@ returns c =
     let square_below : R² < 2 ^ 128 = value_below args.r2 (search rules) (search rules) in
     let second_below : value c.read_two-next.result.second < 2 ^ 128 = value_below c.read_two-next.result.second (search rules) (search rules) in
     let factor_below : R < 2 ^ 128 = value_below args.r (search rules) (search rules) in
-    let A : ℕ = value sum.xor.result in
-    let B : ℕ = value next.read_two-next.result.second in
-    let eA : A ≡ value args.sum ⊕ first_block s = sum.xor.ensures ∙ ap (λ (x : ℕ). value args.sum ⊕ x) next.read_two-next.ensures.first_value in
-    let w = two.two_products.result in
-    let both : value w.high * 2 ^ 128 + value w.low ≡ carryless 128 A R² ⊕ carryless 128 B R = two.two_products.ensures in
+    let A : ℕ = value c.xor.result in
+    let B : ℕ = value c.read_two-next.result.second in
+    let eA : A ≡ value args.sum ⊕ first_block s = c.xor.ensures ∙ ap (λ (x : ℕ). value args.sum ⊕ x) c.read_two-next.ensures.first_value in
+    let w = c.two_products.result in
+    let both : value w.high * 2 ^ 128 + value w.low ≡ carryless 128 A R² ⊕ carryless 128 B R = c.two_products.ensures in
     c.reduced.ensures ∙ ap (reduction 128 0x87) both ∙ two_reduced 128 0x87 (lit< tt) (lit< tt) A R² B R first_below square_below second_below factor_below
-    ∙ ap₂ ◌⊕◌ (ap (λ (x : ℕ). x · R²) eA) (ap (λ (x : ℕ). x · R) next.read_two-next.ensures.second_value)
+    ∙ ap₂ ◌⊕◌ (ap (λ (x : ℕ). x · R²) eA) (ap (λ (x : ℕ). x · R) c.read_two-next.ensures.second_value)

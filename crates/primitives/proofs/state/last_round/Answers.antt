@@ -6,8 +6,7 @@ use Rattle.primitives.proofs.state.last_round.Goals as goal
 
 pub returns : goal.returns
 returns c =
-    let start = c in
-    let a = start.args in
+    let a = c.args in
     let table = a.table.now in
     c.add_round_key.ensures
     ∙ ap (add_round_key (round_key a.words.now a.n))
@@ -15,4 +14,4 @@ returns c =
     ∙ ap shift_rows
     (c.sub_bytes.ensures
     ∙ ap (λ (s : List ℕ). state (λ r c. byte_of (get_or table (at s r c) 0) 1)) (c.to_bytes.ensures ∙ sym (columns_words a.w))
-    ∙ sub_by_table start.requires.0 a.w))
+    ∙ sub_by_table c.requires.0 a.w))

@@ -1,5 +1,4 @@
 -- What is opened and what is left to do make the run: one block goes from the one to the other at each turn. A block that is refused comes back as it was lent.
--- What is deciphered has the length of a block, and the next block is as it was lent.
 use Prim.Native.Nat.{ℕ, ◌+◌, ◌-◌, ◌*◌, ◌≤◌}
 use mathlib.Core.Path.{◌≡◌}
 use mathlib.Core.List.{List, []}

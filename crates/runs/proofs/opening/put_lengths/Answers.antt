@@ -17,23 +17,19 @@ loop-i-init c = (refl, refl, omega arith)
 pub overflow_cast-lengths : goal.overflow_cast-lengths
 overflow_cast-lengths c =
     let l = c.loop-i in
-    let known = c in
-    let start = known in
-    let run = start.args.run.now in
-    let room : 512 * l.i + 512 ≤ length run = omega (arith, start.requires, l.invariant.1, c.loop-i-test.true) in
-    let read = used-at l.i run (λ k. (known.shared_slice_known-1.given k).fits) room (lent_part l.i run) in
+    let run = c.args.run.now in
+    let room : 512 * l.i + 512 ≤ length run = omega (arith, c.requires, l.invariant.1, c.loop-i-test.true) in
+    let read = used-at l.i run (λ k. (c.shared_slice_known-1.given k).fits) room (lent_part l.i run) in
     omega (arith, c.get.ensures, read.1)
 
 pub loop-i-preserved : goal.loop-i-preserved
 loop-i-preserved c =
     let l = c.loop-i in
-    let known = c in
-    let start = known in
-    let run = start.args.run.now in
-    let below : l.i < length start.args.lengths.now = omega (arith, l.invariant.1, c.loop-i-test.true) in
-    let room : 512 * l.i + 512 ≤ length run = omega (arith, start.requires, below) in
-    let read = used-at l.i run (λ k. (known.shared_slice_known-1.given k).fits) room (lent_part l.i run) in (
-      filled_next used run start.args.lengths.now l.i below l.invariant.0 (c.get.ensures ∙ read.0),
+    let run = c.args.run.now in
+    let below : l.i < length c.args.lengths.now = omega (arith, l.invariant.1, c.loop-i-test.true) in
+    let room : 512 * l.i + 512 ≤ length run = omega (arith, c.requires, below) in
+    let read = used-at l.i run (λ k. (c.shared_slice_known-1.given k).fits) room (lent_part l.i run) in (
+      filled_next used run c.args.lengths.now l.i below l.invariant.0 (c.get.ensures ∙ read.0),
       length-set l.lengths l.i c.get.result ∙ l.invariant.1,
       rw length-set (omega (arith, c.loop-i-test.true)),
     )

@@ -8,17 +8,15 @@ use Rattle.runs.proofs.sealing.some_over.Goals as goal
 
 pub returns-then-lengths-i-gt496 : goal.returns-then-lengths-i-gt496
 returns-then-lengths-i-gt496 c =
-    let turn = c in
-    let l = turn.loop-i in
-    let lengths = turn.args.lengths.now in
-    sym (l.invariant ∙ over_from 496 lengths l.i turn.loop-i-test.true ∙ rw (lt-ltb 496 _ c.if-lengths-i-gt496.true))
+    let l = c.loop-i in
+    let lengths = c.args.lengths.now in
+    sym (l.invariant ∙ over_from 496 lengths l.i c.loop-i-test.true ∙ rw (lt-ltb 496 _ c.if-lengths-i-gt496.true))
 
 pub loop-i-preserved : goal.loop-i-preserved
 loop-i-preserved c =
-    let turn = c in
-    let l = turn.loop-i in
-    let lengths = turn.args.lengths.now in
-    l.invariant ∙ over_from 496 lengths l.i turn.loop-i-test.true ∙ rw (le-ltb 496 _ c.if-lengths-i-gt496.false)
+    let l = c.loop-i in
+    let lengths = c.args.lengths.now in
+    l.invariant ∙ over_from 496 lengths l.i c.loop-i-test.true ∙ rw (le-ltb 496 _ c.if-lengths-i-gt496.false)
 
 pub returns : goal.returns
 unfolding some_over

@@ -7,10 +7,6 @@ use Rattle.strings.proofs.message.judge.Goals as goal
 pub returns : goal.returns
 unfolding in_turn
 returns c =
-    let second = c in
-    let first = second in
-    let a = first.args in
-    rw (c.refuse_if-3.ensures, second.refuse_if-2.ensures, first.refuse_if.ensures)
+    let a = c.args in
+    rw (c.refuse_if-3.ensures, c.refuse_if-2.ensures, c.refuse_if.ensures)
     (in_turn_lem (tests_behind_key a.least a.short a.tweak.now a.message.now))
-
--- MISSING strings::refusal::Answer::refuse_if

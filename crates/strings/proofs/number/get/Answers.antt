@@ -1,5 +1,4 @@
 -- After i turns `value` is the number of the i bytes from `at` on, 0 past the end, cut to 64 digits.
--- One byte more.
 use Prim.Native.Nat.{ℕ, ◌+◌, ◌*◌, ◌%◌, ◌^◌, ◌<◌}
 use mathlib.Core.Path.{◌≡◌, ◌∙◌}
 use native.Mathlib.Omega.{arith}

@@ -9,11 +9,7 @@ use Rattle.blocks.proofs.block.Block.add_to.Goals as goal
 
 pub returns-then-whole : goal.returns-then-whole
 returns-then-whole c =
-    let written = c in
-    let words = written in
-    let sum = words in
-    let there = sum in
-    let a = there.args in
-    let first : value there.from_words-there.result ≡ first_block (drop a.at a.out.now) =
-    there.from_words-there.ensures ∙ ap number there.words_at.ensures ∙ sym (block_padded (drop a.at a.out.now)) in
-    rw (written.put_words.ensures, words.to_words.ensures, sum.xor.ensures, first)
+    let a = c.args in
+    let first : value c.from_words-there.result ≡ first_block (drop a.at a.out.now) =
+    c.from_words-there.ensures ∙ ap number c.words_at.ensures ∙ sym (block_padded (drop a.at a.out.now)) in
+    rw (c.put_words.ensures, c.to_words.ensures, c.xor.ensures, first)

@@ -14,6 +14,5 @@ returns-then-whole c =
 pub returns : goal.returns
 unfolding value
 returns c =
-    let known = c in
-    let a = known.args in
-    rw (c.get.ensures, c.get-2.ensures) (join_halves a.at a.s.now (λ i. (known.shared_slice_known-1.given i).fits))
+    let a = c.args in
+    rw (c.get.ensures, c.get-2.ensures) (join_halves a.at a.s.now (λ i. (c.shared_slice_known-1.given i).fits))

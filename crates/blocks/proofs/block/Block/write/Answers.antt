@@ -14,11 +14,10 @@ use Rattle.blocks.proofs.block.Block.write.Goals as goal
 pub returns : goal.returns
 unfolding value
 returns c =
-    let p = c in
-    let a = p.args in
+    let a = c.args in
     let low : a.self.lo < 2 ^ 64 = omega arith in
     let front : List ℕ = bytes 8 (a.self.lo / 2 ^ 64) in
     let same : length front ≡ length (bytes 8 a.self.hi) = length-bytes 8 (a.self.lo / 2 ^ 64) ∙ sym (length-bytes 8 a.self.hi) in
-    let first : p.put.new.out ≡ overwrite a.at (bytes 16 a.self.lo) a.out.now = p.put.ensures in
+    let first : c.put.new.out ≡ overwrite a.at (bytes 16 a.self.lo) a.out.now = c.put.ensures in
     rw (c.put-2.ensures, first, bytes_join 8 8 a.self.hi low, bytes-append 8 8 a.self.lo)
     (overwrite_again a.at front (bytes 8 a.self.hi) (bytes 8 a.self.lo) a.out.now same)

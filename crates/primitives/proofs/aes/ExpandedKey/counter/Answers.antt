@@ -10,15 +10,13 @@ use Rattle.primitives.proofs.aes.ExpandedKey.counter.Goals as goal
 
 pub loop-at-preserved : goal.loop-at-preserved
 loop-at-preserved c =
-    let m = c in
-    let turn = m in
-    let l = turn.loop-at in
-    let args = turn.args in
+    let l = c.loop-at in
+    let args = c.args in
     let next : (l.at + 16) / 16 + 1 ≡ suc (l.at / 16 + 1) = omega arith in (
-      rw (m.mask_block.ensures, next)
-          (masked-next (λ i. encipher turn.rounds_done-rounds.result args.self.words (value args.s ⊕ bin i)) (l.at / 16 + 1) l.at l.message turn.loop-at-test.true
+      rw (c.mask_block.ensures, next)
+          (masked-next (λ i. encipher c.rounds_done-rounds.result args.self.words (value args.s ⊕ bin i)) (l.at / 16 + 1) l.at l.message c.loop-at-test.true
           ∙ l.invariant.0),
-      simp (m.mask_block.ensures, length-overwrite) l.invariant.1,
+      simp (c.mask_block.ensures, length-overwrite) l.invariant.1,
     )
 
 pub returns : goal.returns

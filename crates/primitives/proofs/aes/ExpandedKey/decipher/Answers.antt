@@ -8,7 +8,6 @@ use Rattle.primitives.proofs.aes.ExpandedKey.decipher.Goals as goal
 pub returns : goal.returns
 unfolding decipher
 returns c =
-    let rounds = c in
-    let a = rounds.args in
+    let a = c.args in
     through_columns (inv_cipher (round_key a.self.words) (rounds_done a.self.rounds)) (value a.block) (value c.from_words.result) c.to_words.result c.inv_cipher.result
-    c.to_words.ensures (rw rounds.rounds_done-rounds.ensures at c.inv_cipher.ensures) c.from_words.ensures
+    c.to_words.ensures (rw c.rounds_done-rounds.ensures at c.inv_cipher.ensures) c.from_words.ensures

@@ -16,18 +16,14 @@ loop-at-init c = (refl, refl, refl)
 pub loop-at-preserved : goal.loop-at-preserved
 unfolding φ
 loop-at-preserved c =
-    let m = c in
-    let input = m in
-    let turn = input in
-    let l = turn.loop-at in
-    let start = turn in
-    let β : ℕ = value start.args.beta in
-    let S : ℕ = value start.args.s in
-    let mask : ℕ → ℕ = λ i. encipher turn.rounds_done-rounds.result start.args.self.words (φ times_x β i ⊕ S) in
+    let l = c.loop-at in
+    let β : ℕ = value c.args.beta in
+    let S : ℕ = value c.args.s in
+    let mask : ℕ → ℕ = λ i. encipher c.rounds_done-rounds.result c.args.self.words (φ times_x β i ⊕ S) in
     let next : (l.at + 16) / 16 ≡ suc (l.at / 16) = omega arith in (
-      rw (m.add_mask.ensures, input.xor.ensures, l.invariant.1, next) (masked-next mask (l.at / 16) l.at l.message turn.loop-at-test.true ∙ l.invariant.0),
+      rw (c.add_mask.ensures, c.xor.ensures, l.invariant.1, next) (masked-next mask (l.at / 16) l.at l.message c.loop-at-test.true ∙ l.invariant.0),
       rw (c.times_x-phi.ensures, next) (ap times_x l.invariant.1),
-      simp (m.add_mask.ensures, length-overwrite) l.invariant.2,
+      simp (c.add_mask.ensures, length-overwrite) l.invariant.2,
     )
 
 pub returns : goal.returns
