@@ -80,6 +80,8 @@ def statements(file, text, has_code):
 
 def has_other_types(text):
     """Whether something that is no record, data type or proposition speaks of
-    types: it would be a proposition that is not read."""
+    types, but for a type that it takes: it would be a proposition that is not
+    read."""
     rest = PROPOSITION.sub("", RECORD.sub("", text))
+    rest = re.sub(r"{\w+ : Type 0}", "", rest)
     return re.search(r"\bType\b", rest) is not None

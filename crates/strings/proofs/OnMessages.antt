@@ -9,12 +9,11 @@ use lib.ListN.{length}
 use borrow.Author.Tests.{ltb-false, eqb-true, eq-eqb, le-ltb}
 use Rattle.strings.specs.Bytes.{Bytes}
 use Rattle.strings.specs.Cipher.{Cipher, Scheme, Same}
-use Rattle.strings.specs.Call.{number_of, looks_at, left_by}
+use Rattle.strings.specs.Call.{Answer, number_of, looks_at, left_by}
 use Rattle.strings.specs.Message.{tests_behind_key, tests, IsCipher, OnePlaintext}
 use Rattle.strings.specs.declared.refusal.Refusal.{Refusal}
 use Rattle.strings.specs.declared.refusal.Refusal.TheVariants.{KeyLength}
-use Rattle.strings.specs.declared.refusal.Answer.{Answer}
-use Rattle.strings.specs.declared.refusal.Answer.TheVariants.{Done, Refused}
+use Rattle.std.specs.Prelude.{Ok, Err}
 use Rattle.strings.proofs.One.{one_preimage}
 use Rattle.strings.proofs.Refusals.{none_holds, all_passed, not_false}
 
@@ -26,10 +25,8 @@ pub record Admitted (least : ℕ) (tweak message : List ℕ) : Type 0 where
 
 module _ (least : ℕ) (short : Refusal) (tweak message : List ℕ) where
   -- No test holds where the lengths are those that the scheme takes.
-  pub all_admitted : Admitted least tweak message → looks_at (tests_behind_key least short tweak message) ≡ Done
-  all_admitted a =
-      rw (eq-eqb (length tweak) 16 a.tweak-length, le-ltb (length message) least a.at_least, le-ltb 4096 (length message) a.at_most)
-      (all_passed _ (refl, (refl, (refl, tt))))
+  pub all_admitted : Admitted least tweak message → looks_at (tests_behind_key least short tweak message) ≡ Ok tt
+  all_admitted a = rw (eq-eqb (length tweak) 16 a.tweak-length, le-ltb (length message) least a.at_least, le-ltb 4096 (length message) a.at_most) refl
 
   pub admitted_behind_key : number_of (looks_at (tests_behind_key least short tweak message)) ≡ 0 → Admitted least tweak message
   admitted_behind_key e =
@@ -46,18 +43,16 @@ module _ (least : ℕ) (short : Refusal) (tweak message : List ℕ) where
   -- Where the key is one, the other tests decide; where it is none, it is told.
   pub behind_key : (S : Scheme) (key : List ℕ) → S.is_key key ≡ true
       → looks_at (tests_behind_key least short tweak message) ≡ looks_at (tests S least short key tweak message)
-  unfolding looks_at
   behind_key S key k = rw k
 
-  pub no_key : (S : Scheme) (key : List ℕ) → S.is_key key ≡ false → Refused KeyLength ≡ looks_at (tests S least short key tweak message)
-  unfolding looks_at
+  pub no_key : (S : Scheme) (key : List ℕ) → S.is_key key ≡ false → Err KeyLength ≡ looks_at (tests S least short key tweak message)
   no_key S key k = rw k
 
 -- ---- where the work was done under an expanded key
 
 -- By the tests, the work and the cipher of an admitted length: what the call promises.
 pub done_behind_key : (S : Scheme) (least : ℕ) (short : Refusal) (tweak message work : List ℕ) {answer : Answer} {left : List ℕ}
-    → answer ≡ looks_at (tests_behind_key least short tweak message) → answer ≡ Done → left ≡ work → Cipher (length message) (S.encipher [] tweak) (S.decipher [] tweak)
+    → answer ≡ looks_at (tests_behind_key least short tweak message) → answer ≡ Ok tt → left ≡ work → Cipher (length message) (S.encipher [] tweak) (S.decipher [] tweak)
     → (answer ≡ looks_at (tests_behind_key least short tweak message))
     × ((left ≡ left_by (number_of answer) work message) × IsCipher S (number_of answer) [] tweak (length message))
 done_behind_key S least short tweak message work e done l cipher = (e, (rw done l, λ z. cipher))

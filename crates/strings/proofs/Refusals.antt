@@ -1,4 +1,4 @@
--- Laws of tests and their refusals: tests one by one, what the number of an answer tells of the tests, and what a refusal leaves.
+-- Laws of tests and their refusals: what the number of an answer tells of the tests, and what a refusal leaves.
 -- Assumes nothing.
 use Prim.Native.Nat.{ℕ, zero, suc, ◌≤◌, ◌<◌}
 use mathlib.Core.Path.{◌≡◌, refl, sym, ap}
@@ -9,10 +9,8 @@ use native.Mathlib.Omega.{arith}
 use lib.ListN.{take}
 use Rattle.strings.specs.declared.refusal.Refusal.{Refusal}
 use Rattle.strings.specs.declared.refusal.Refusal.TheVariants.{KeyLength, TweakLength, TooShort, TooLong, PayloadTooLong, PlaceTooHigh, BlockLength, CheckFailed, PackLength, ListLength, Blank, ForwardTooShort}
-use Rattle.strings.specs.declared.refusal.Answer.{Answer}
-use Rattle.strings.specs.declared.refusal.Answer.TheVariants.{Done, Refused}
+use Rattle.std.specs.Prelude.{Result, Ok, Err}
 use Rattle.strings.specs.Call.{refusal_number, number_of, Tests, looks_at, left_by}
-use Rattle.strings.specs.Inner.{refuse_if, in_turn}
 
 -- A refusal's number is not that of a call that was done, nor 9, which is the program's; and 13 is the highest.
 pub refusal_range : (why : Refusal) → (0 < refusal_number why) × (refusal_number why ≤ 13) × (refusal_number why ≡ 9 → ⊥)
@@ -33,22 +31,9 @@ refusal_some : (why : Refusal) → refusal_number why ≡ 0 → ⊥
 refusal_some why e = omega (arith, (refusal_range why).0, e)
 
 -- An answer's number has at most two digits.
-pub number_range : (a : Answer) → number_of a < 100
-number_range Done = omega arith
-number_range (Refused why) = omega (arith, (refusal_range why).1)
-
--- ---- tests one by one
-
-refused_stays : (why : Refusal) (tests : Tests) → in_turn (Refused why) tests ≡ Refused why
-unfolding in_turn refuse_if
-refused_stays why [] = refl
-refused_stays why (t ∷ tests) = refused_stays why tests
-
-pub in_turn_lem : (tests : Tests) → in_turn Done tests ≡ looks_at tests
-unfolding in_turn refuse_if looks_at
-in_turn_lem [] = refl
-in_turn_lem ((true, why) ∷ tests) = refused_stays why tests
-in_turn_lem ((false, why) ∷ tests) = in_turn_lem tests
+pub number_range : {A : Type 0} (a : Result A Refusal) → number_of a < 100
+number_range (Ok a) = omega arith
+number_range (Err why) = omega (arith, (refusal_range why).1)
 
 -- ---- what the answer tells
 
@@ -58,19 +43,16 @@ NoneHolds [] = Unit {0}
 NoneHolds ((holds, why) ∷ tests) = (holds ≡ false) × NoneHolds tests
 
 pub none_holds : (tests : Tests) → number_of (looks_at tests) ≡ 0 → NoneHolds tests
-unfolding looks_at
 none_holds [] e = tt
 none_holds ((true, why) ∷ tests) e = absurd (refusal_some why e)
 none_holds ((false, why) ∷ tests) e = (refl, none_holds tests e)
 
-pub all_passed : (tests : Tests) → NoneHolds tests → looks_at tests ≡ Done
-unfolding looks_at
+pub all_passed : (tests : Tests) → NoneHolds tests → looks_at tests ≡ Ok tt
 all_passed [] h = refl
 all_passed ((holds, why) ∷ tests) h = rw h.0 (all_passed tests h.1)
 
 -- A refusal by the first n tests is one by all of them.
-pub refused_early : (n : ℕ) (tests : Tests) (why : Refusal) → looks_at (take n tests) ≡ Refused why → looks_at tests ≡ Refused why
-unfolding looks_at
+pub refused_early : (n : ℕ) (tests : Tests) (why : Refusal) → looks_at (take n tests) ≡ Err why → looks_at tests ≡ Err why
 refused_early zero tests why e = absurd (refusal_some why (sym (ap number_of e)))
 refused_early (suc n) [] why e = e
 refused_early (suc n) ((true, first) ∷ tests) why e = e
@@ -94,7 +76,7 @@ refusal_leaves why work lent = by (refusal_number why) (refusal_some why)
     by (suc n) h = refl
 
 -- Of an answer that is a refusal.
-module _ {a : Answer} {why : Refusal} (e : a ≡ Refused why) where
+module _ {A : Type 0} {a : Result A Refusal} {why : Refusal} (e : a ≡ Err why) where
   pub refused_some : number_of a ≡ 0 → ⊥
   refused_some z = refusal_some why (rw e at z)
 
