@@ -2,7 +2,7 @@
 -- Assumes nothing.
 use Prim.Native.Nat.{ℕ, zero, suc, ◌+◌, ◌-◌, ◌%◌, ◌^◌, ◌≤◌, ◌<◌}
 use mathlib.Core.Path.{◌≡◌, refl, sym, ap, ◌∙◌}
-use mathlib.Core.Bool.{Bool, true, false, cond, ◌&&◌, false≢true, and_assoc}
+use mathlib.Core.Bool.{Bool, true, false, cond, ◌&&◌, and_assoc}
 use mathlib.Core.List.{List, ◌++◌, append_assoc}
 use native.Mathlib.Nat.{zero-div, zero-add, mod-eq_of_lt}
 use native.Mathlib.Omega.{arith}
@@ -16,9 +16,10 @@ use Rattle.strings.proofs.Bytes.{length-bytes, bytes_below, bytes-number, number
 use Rattle.strings.proofs.Place.{number_fits, overwrite_head, overwrite-append, overwrite_whole}
 use Rattle.strings.proofs.Equal.{both, equal-append, equal_refl, equal_true}
 use Rattle.layout.specs.Layout.{check, plain_block, tweak, used, passes, is_zero}
-use Rattle.layout.specs.Inner.{fits, verdict_of}
-use Rattle.layout.specs.declared.Verdict.{Verdict}
-use Rattle.layout.specs.declared.Verdict.TheVariants.{Passed, Failed}
+use Rattle.layout.specs.Inner.{fits}
+use Rattle.std.specs.Prelude.{Some, None}
+use Rattle.std.specs.Bool.{then_some}
+use Rattle.std.proofs.lemmas.Option.{none-some, same_Some}
 
 -- u is two bytes.
 pub used-bytes : (B : List ℕ) → OfLength 512 B → number (padded 2 (drop 508 B)) % 2 ^ 64 ≡ used B
@@ -218,30 +219,20 @@ pub passes-length : (pack place : ℕ) (B : List ℕ) → (length B ≡ 512 → 
 passes-length pack place B h = by_length pack place B h (passes pack place B) refl
 
 -- What was read tells of the check.
-abbrev was_passed : Verdict → Bool
-was_passed (Passed u) = true
-was_passed Failed = false
-
-abbrev length_of : Verdict → ℕ
-length_of (Passed u) = u
-length_of Failed = 0
-
 module _ (pack place : ℕ) (B : List ℕ) where
-  by_passed : (u : ℕ) (t : Bool) → Passed u ≡ cond t (Passed (used B)) Failed → (t ≡ true) × (u ≡ used B)
-  by_passed u true e = (refl, ap length_of e)
-  by_passed u false e = absurd (false≢true (sym (ap was_passed e)))
+  pub read_passed : (u : ℕ) → Some u ≡ then_some (passes pack place B) (used B) → (passes pack place B ≡ true) × (u ≡ used B)
+  read_passed u = by (passes pack place B)
+    where
+      by : (t : Bool) → Some u ≡ then_some t (used B) → (t ≡ true) × (u ≡ used B)
+      by true e = (refl, same_Some u (used B) e)
+      by false e = absurd (none-some u (sym e))
 
-  by_failed : (t : Bool) → Failed ≡ cond t (Passed (used B)) Failed → t ≡ false
-  by_failed true e = absurd (false≢true (ap was_passed e))
-  by_failed false e = refl
-
-  pub read_passed : (u : ℕ) → Passed u ≡ verdict_of pack place B → (passes pack place B ≡ true) × (u ≡ used B)
-  unfolding verdict_of
-  read_passed u = by_passed u (passes pack place B)
-
-  pub read_failed : Failed ≡ verdict_of pack place B → passes pack place B ≡ false
-  unfolding verdict_of
-  read_failed = by_failed (passes pack place B)
+  pub read_failed : None ≡ then_some (passes pack place B) (used B) → passes pack place B ≡ false
+  read_failed = by (passes pack place B)
+    where
+      by : (t : Bool) → None ≡ then_some t (used B) → t ≡ false
+      by true e = absurd (none-some (used B) e)
+      by false e = refl
 
 pub both_fit : (payload block : List ℕ) → length payload ≤ 496 → length block ≡ 512 → fits payload block ≡ true
 unfolding fits
@@ -287,6 +278,6 @@ not_zero C h = by (is_zero C) refl
 pub zero_length : (C : List ℕ) → (length C ≡ 512 → ⊥) → is_zero C ≡ false
 zero_length C h = not_zero C (λ e. h (ap length e ∙ length-replicate {A = ℕ} 512 0))
 
-pub zero_bytes : (C : List ℕ) → length C ≡ 512 → equal (take 512 (drop 0 C)) (bytes 512 0) ≡ is_zero C
+pub zero_bytes : (C : List ℕ) → length C ≡ 512 → equal C (bytes (length C) 0) ≡ is_zero C
 unfolding is_zero
-zero_bytes C h = rw (take_all 512 C (omega (arith, h)), zeros 512)
+zero_bytes C h = rw (h, zeros 512)

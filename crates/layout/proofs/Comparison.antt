@@ -7,9 +7,9 @@ use mathlib.Core.List.{List}
 use native.Mathlib.Numerals.{add-one}
 use native.Mathlib.Omega.{arith}
 use borrow.Author.Tests.{eqb-true, eqb-false, ne_eqb}
-use lib.Bits.{bit_or, bit_xor, or_zero_l, or_zero_r, or_add_and, and_le_l, and_le_r, xor_self, xor_add_and}
+use lib.Bits.{bit_or, bit_xor, or_comm, or_zero_l, or_zero_r, or_add_and, and_le_l, and_le_r, xor_self, xor_add_and}
 use lib.Dec.{eqb, eqb-suc-zero}
-use lib.ListN.{length, get_or, take, drop}
+use lib.ListN.{length, get_or, drop}
 use lib.Seq.{drop-cons}
 use Rattle.strings.specs.Bytes.{bytes, equal}
 
@@ -33,9 +33,9 @@ differ_by a b false e =
     ne_eqb (bit_xor a b) 0 (λ z. eqb-false a b e (omega (arith, z, xor_add_and a b, and_le_l a b, and_le_r a b)))
 
 -- Comparing a number's bytes: the next byte.
-pub differ_next : (s : List ℕ) (k n w d : ℕ) → k < length s → eqb d 0 ≡ equal (take n (drop (k + 1) s)) (bytes n w)
-    → eqb (bit_or (bit_xor (get_or s k 0) (w / 256 ^ n % 256)) d) 0 ≡ equal (take (n + 1) (drop k s)) (bytes (n + 1) w)
+pub differ_next : (s : List ℕ) (k n w d : ℕ) → k < length s → eqb d 0 ≡ equal (drop (k + 1) s) (bytes n w)
+    → eqb (bit_or d (bit_xor (get_or s k 0) (w / 256 ^ n % 256))) 0 ≡ equal (drop k s) (bytes (n + 1) w)
 unfolding bytes equal
 differ_next s k n w d l h =
-    let byte = w / 256 ^ n % 256 in
-    rw (none_differ (bit_xor (get_or s k 0) byte) d, differ_by (get_or s k 0) byte _ refl, h, add-one n, drop-cons s k 0 l, add-one k)
+    let differ = bit_xor (get_or s k 0) (w / 256 ^ n % 256) in
+    rw (or_comm d differ, none_differ differ d, differ_by (get_or s k 0) (w / 256 ^ n % 256) _ refl, h, add-one n, drop-cons s k 0 l, add-one k)

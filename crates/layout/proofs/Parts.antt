@@ -11,19 +11,19 @@ use borrow.Author.Tests.{leb-true, leb-false, eqb-true, eq-eqb, le-leb, lt-leb}
 use lib.Dec.{leb, eqb}
 use lib.ListN.{length, get_or, take, drop, length-append, length-drop, get_or-append}
 use lib.Seq.{length-take-le, get_or-take, get_or-drop, get_or-append-add, take-add, take-length, ext_get_or}
-use Rattle.strings.specs.Call.{number_of, looks_at, left_by}
-use Rattle.strings.specs.declared.refusal.Answer.TheVariants.{Done}
+use Rattle.strings.specs.Call.{number_of, left_by}
+use Rattle.std.specs.Prelude.{Ok}
 use Rattle.strings.proofs.Refusals.{none_holds, all_passed, not_false}
 use Rattle.strings.proofs.Equal.{both}
 use Rattle.layout.specs.Finding.{block_count, is_pack, part, parts, with_part, tests, answer_of, found}
 
 -- ---- what an answer tells
 
-pub none_refused : (place : ℕ) (pack : List ℕ) → number_of (answer_of place pack) ≡ 0 → answer_of place pack ≡ Done
+pub none_refused : (place : ℕ) (pack : List ℕ) → number_of (answer_of place pack) ≡ 0 → answer_of place pack ≡ Ok tt
 none_refused place pack e = all_passed (tests place pack) (none_holds (tests place pack) e)
 
-in_range : (place : ℕ) (pack : List ℕ) → is_pack pack ≡ true → place < block_count pack → answer_of place pack ≡ Done
-unfolding tests looks_at
+in_range : (place : ℕ) (pack : List ℕ) → is_pack pack ≡ true → place < block_count pack → answer_of place pack ≡ Ok tt
+unfolding tests
 in_range place pack h b = rw (h, lt-leb (block_count pack) place b)
 
 -- What it is to be a pack, as facts.
@@ -48,14 +48,14 @@ pack_of n pack h low high =
     rw (eq-eqb _ 0 whole, le-leb 1 (block_count pack) (rw (count_of n pack h) low), le-leb (block_count pack) 128 (rw (count_of n pack h) high))
 
 -- A place that is found stands within the pack, and is below 128.
-pub found_within : (place : ℕ) (pack : List ℕ) → answer_of place pack ≡ Done → 512 * place + 512 ≤ length pack
+pub found_within : (place : ℕ) (pack : List ℕ) → answer_of place pack ≡ Ok tt → 512 * place + 512 ≤ length pack
 unfolding tests
 found_within place pack e =
     let none = none_holds (tests place pack) (ap number_of e) in
     let below : place < length pack / 512 = leb-false _ _ none.1.0 in
     omega (arith, below)
 
-pub found_limit : (place : ℕ) (pack : List ℕ) → answer_of place pack ≡ Done → place < 128
+pub found_limit : (place : ℕ) (pack : List ℕ) → answer_of place pack ≡ Ok tt → place < 128
 unfolding tests
 found_limit place pack e =
     let none = none_holds (tests place pack) (ap number_of e) in
@@ -67,7 +67,7 @@ unfolding part
 part_length place pack room = length-take-le 512 (drop (512 * place) pack) (rw length-drop (omega (arith, room)))
 
 -- What is found, as the code has its ends.
-pub found_part : (place : ℕ) (pack : List ℕ) → answer_of place pack ≡ Done → take (512 * place + 512 - 512 * place) (drop (512 * place) pack) ≡ found place pack
+pub found_part : (place : ℕ) (pack : List ℕ) → answer_of place pack ≡ Ok tt → take (512 * place + 512 - 512 * place) (drop (512 * place) pack) ≡ found place pack
 unfolding part
 found_part place pack e =
     let long : 512 * place + 512 - 512 * place ≡ 512 = omega arith in
@@ -156,7 +156,7 @@ unfolding parts
 parts_same zero pack other same = refl
 parts_same (suc n) pack other same = rw (parts_same n pack other (λ place h. same place (omega (arith, h))), same n (omega arith))
 
-found_is : (place : ℕ) (pack : List ℕ) → answer_of place pack ≡ Done → found place pack ≡ part place pack
+found_is : (place : ℕ) (pack : List ℕ) → answer_of place pack ≡ Ok tt → found place pack ≡ part place pack
 found_is place pack e = rw e
 
 same_pack : (pack other : List ℕ) → length pack ≡ length other → is_pack pack ≡ is_pack other
@@ -186,10 +186,10 @@ if_done : (number : ℕ) (a b : List ℕ) → (number ≡ 0 → a ≡ b) → lef
 if_done zero a b same = same refl
 if_done (suc n) a b same = refl
 
-pub found_length : (place : ℕ) (pack : List ℕ) → answer_of place pack ≡ Done → length (found place pack) ≡ 512
+pub found_length : (place : ℕ) (pack : List ℕ) → answer_of place pack ≡ Ok tt → length (found place pack) ≡ 512
 found_length place pack e = rw e (part_length place pack (found_within place pack e))
 
-module _ (place : ℕ) (block pack : List ℕ) (done : answer_of place pack ≡ Done) (long : length block ≡ 512) where
+module _ (place : ℕ) (block pack : List ℕ) (done : answer_of place pack ≡ Ok tt) (long : length block ≡ 512) where
   room : 512 * place + 512 ≤ length pack
   room = found_within place pack done
 
