@@ -1,16 +1,14 @@
 -- The part that finding returns, as bytes in memory: where it begins, and what the pack is after it was written to.
 -- Assumes nothing.
 use Prim.Native.Nat.{ℕ, suc, ◌+◌, ◌-◌, ◌*◌, ◌≤◌, ◌<◌}
-use mathlib.Core.Path.{◌≡◌, refl, sym, ap, ◌∙◌, subst}
-use mathlib.Core.List.{List, []}
+use mathlib.Core.Path.{◌≡◌, sym, ap, ◌∙◌, subst}
+use mathlib.Core.List.{List}
 use native.Mathlib.Nat.{add_assoc, add_comm}
 use native.Mathlib.Omega.{arith}
 use denote.Ref.{Bor}
 use lib.ListN.{length, get_or, take, drop}
-use Rattle.strings.specs.declared.refusal.Refusal.{Refusal}
-use Rattle.std.specs.Prelude.{Ok, Err}
-use Rattle.strings.proofs.Refusals.{refused_some, refused_leaves}
-use Rattle.layout.specs.Finding.{part, with_part, answer_of, found, address, BeginsAt, Holds, Outside, SameOutside, Written}
+use Rattle.std.specs.Prelude.{Ok}
+use Rattle.layout.specs.Finding.{with_part, answer_of, found, address, BeginsAt, Holds, Outside, SameOutside, Written}
 use Rattle.layout.proofs.Parts.{found_within, part_length, found_part, places_apart, before_or_from, with_length, with_before, with_within, with_behind}
 
 -- A byte of a part, as a byte of the pack; so parts of different places have none in common.
@@ -87,14 +85,3 @@ module _ (place : ℕ) (pack r : Bor (List ℕ)) where
       let long : length r.now ≡ 512 = ap length (is ∙ found_part place pack.now done) ∙ rw done (part_length place pack.now room) in
       let begins : r.ref_ptr ≡ address pack (512 * place) = at ∙ ap (λ (n : ℕ). (pack.ref_ptr.0, n)) (add_comm (512 * place) pack.ref_ptr.1) in
       (is ∙ found_part place pack.now done, (λ e. begins, done_written place pack r done long begins))
-
-  pub nothing_found : {why : Refusal} → answer_of place pack.now ≡ Err why → r.now ≡ [] → (r.now ≡ found place pack.now) × (BeginsAt place pack r × Written place pack r)
-  nothing_found refused is = (
-    is ∙ refused_leaves refused (part place pack.now) [],
-    (
-      λ e. absurd (refused_some refused e),
-      λ memory block in-r same.
-          subst (Holds memory pack) (refused_leaves refused (with_part place block pack.now) pack.now)
-          (record { same_length = refl; same_bytes = λ i h. same i h (λ j below same. absurd (omega (arith, ap length is, below))) }),
-    ),
-  )
