@@ -2,23 +2,26 @@
 -- Assumes nothing.
 use Prim.Native.Nat.{ℕ, zero, suc, ◌+◌, ◌-◌, ◌%◌, ◌^◌, ◌≤◌, ◌<◌}
 use mathlib.Core.Path.{◌≡◌, refl, sym, ap, ◌∙◌}
-use mathlib.Core.Bool.{Bool, true, false, cond, ◌&&◌, false≢true, and_assoc}
+use mathlib.Core.Bool.{true, false, cond, ◌&&◌, and_assoc}
 use mathlib.Core.List.{List, ◌++◌, append_assoc}
 use native.Mathlib.Nat.{zero-div, zero-add, mod-eq_of_lt}
 use native.Mathlib.Omega.{arith}
-use borrow.Author.Tests.{le-leb, lt-leb, leb-true, eq-eqb, ne_eqb}
+use borrow.Author.Tests.{le-leb, leb-true}
 use lib.Dec.{leb}
 use lib.ListN.{length, take, drop, replicate, length-append, length-replicate, length-drop, length-take, take-append-drop}
 use lib.Seq.{drop-drop, drop_at, take_all, take_at, length-take-le}
+use Rattle.std.proofs.Common.{rules}
+use Rattle.std.proofs.lemmas.Bool.{false_from_ne_true}
+use Rattle.std.proofs.lemmas.Grind.{common_steps}
 use Rattle.strings.specs.Bytes.{Bytes, OfLength, number, bytes, equal}
 use Rattle.strings.specs.Inner.{padded, overwrite}
 use Rattle.strings.proofs.Bytes.{length-bytes, bytes_below, bytes-number, number_below, number-bytes, below_append, below_take, below_drop, padded-take}
 use Rattle.strings.proofs.Place.{number_fits, overwrite_head, overwrite-append, overwrite_whole}
 use Rattle.strings.proofs.Equal.{both, equal-append, equal_refl, equal_true}
 use Rattle.layout.specs.Layout.{check, plain_block, tweak, used, passes, is_zero}
-use Rattle.layout.specs.Inner.{fits, verdict_of}
-use Rattle.layout.specs.declared.Verdict.{Verdict}
-use Rattle.layout.specs.declared.Verdict.TheVariants.{Passed, Failed}
+use Rattle.layout.specs.Inner.{fits}
+use Rattle.std.specs.Prelude.{Some, None}
+use Rattle.std.specs.Bool.{then_some}
 
 -- u is two bytes.
 pub used-bytes : (B : List ℕ) → OfLength 512 B → number (padded 2 (drop 508 B)) % 2 ^ 64 ≡ used B
@@ -42,11 +45,11 @@ zeros (suc n) = rw (zero-div (256 ^ n), zeros n)
 -- Its length, and where each part of it begins.
 length-check : (u pack place : ℕ) → length (check u pack place) ≡ 496 - u + 16
 unfolding check
-length-check u pack place = simp (length-append, length-replicate, length-bytes) (omega arith)
+length-check u pack place = grind (arith, common_steps, length-bytes)
 
 pub length_plain : (payload : List ℕ) (pack place : ℕ) → length payload ≤ 496 → length (plain_block payload pack place) ≡ 512
 unfolding plain_block
-length_plain payload pack place h = rw (length-append, length-check (length payload) pack place) (omega arith)
+length_plain payload pack place h = grind (arith, common_steps, length-check)
 
 -- Writing one behind the other.
 overwrite_behind : (i j : ℕ) (t u s : List ℕ) → i + length t ≡ j → overwrite i (t ++ u) s ≡ overwrite j u (overwrite i t s)
@@ -140,7 +143,7 @@ passes-parts pack place B h l =
 
 -- The tweak and the plain block are strings of 16 and of 512 bytes.
 zeros_below : (n : ℕ) → Bytes (replicate n 0)
-zeros_below n = rw (sym (zeros n)) (bytes_below n 0)
+zeros_below n i = grind (arith, common_steps)
 
 pub tweak_of_length : (pack place : ℕ) → OfLength 16 (tweak pack place)
 unfolding tweak
@@ -204,61 +207,37 @@ passes_only pack place B h e =
     (l, rw (n, sym (equal_true (drop (used B) B) (check (used B) pack place) parts.1), take-append-drop))
 
 -- What passes has 512 bytes.
-by_length : (pack place : ℕ) (B : List ℕ) → (length B ≡ 512 → ⊥) → (t : Bool) → passes pack place B ≡ t → t ≡ false
+passed_length : (pack place : ℕ) (B : List ℕ) → passes pack place B ≡ true → length B ≡ 512
 unfolding passes
-by_length pack place B h false e = refl
-by_length pack place B h true e =
-    let u = used B in
-    let parts = both (leb u 496) (equal (drop u B) (check u pack place)) e in
-    let same : length (drop u B) ≡ 496 - u + 16 =
-    ap length (equal_true (drop u B) (check u pack place) parts.1) ∙ length-check u pack place in
-    absurd (h (omega (arith, leb-true u 496 parts.0, same, length-drop u B)))
+passed_length pack place B e =
+    let parts = both (leb (used B) 496) (equal (drop (used B) B) (check (used B) pack place)) e in
+    let same : length (drop (used B) B) ≡ 496 - used B + 16 =
+    ap length (equal_true (drop (used B) B) (check (used B) pack place) parts.1) ∙ length-check (used B) pack place in
+    omega (arith, leb-true (used B) 496 parts.0, same, length-drop (used B) B)
 
 pub passes-length : (pack place : ℕ) (B : List ℕ) → (length B ≡ 512 → ⊥) → passes pack place B ≡ false
-passes-length pack place B h = by_length pack place B h (passes pack place B) refl
+passes-length pack place B h = false_from_ne_true (passes pack place B) (λ e. h (passed_length pack place B e))
 
 -- What was read tells of the check.
-abbrev was_passed : Verdict → Bool
-was_passed (Passed u) = true
-was_passed Failed = false
-
-abbrev length_of : Verdict → ℕ
-length_of (Passed u) = u
-length_of Failed = 0
-
 module _ (pack place : ℕ) (B : List ℕ) where
-  by_passed : (u : ℕ) (t : Bool) → Passed u ≡ cond t (Passed (used B)) Failed → (t ≡ true) × (u ≡ used B)
-  by_passed u true e = (refl, ap length_of e)
-  by_passed u false e = absurd (false≢true (sym (ap was_passed e)))
+  pub read_passed : (u : ℕ) → Some u ≡ then_some (passes pack place B) (used B) → (passes pack place B ≡ true) × (u ≡ used B)
+  read_passed u e = search rules
 
-  by_failed : (t : Bool) → Failed ≡ cond t (Passed (used B)) Failed → t ≡ false
-  by_failed true e = absurd (false≢true (ap was_passed e))
-  by_failed false e = refl
-
-  pub read_passed : (u : ℕ) → Passed u ≡ verdict_of pack place B → (passes pack place B ≡ true) × (u ≡ used B)
-  unfolding verdict_of
-  read_passed u = by_passed u (passes pack place B)
-
-  pub read_failed : Failed ≡ verdict_of pack place B → passes pack place B ≡ false
-  unfolding verdict_of
-  read_failed = by_failed (passes pack place B)
+  pub read_failed : None ≡ then_some (passes pack place B) (used B) → passes pack place B ≡ false
+  read_failed e = search rules
 
 pub both_fit : (payload block : List ℕ) → length payload ≤ 496 → length block ≡ 512 → fits payload block ≡ true
 unfolding fits
-both_fit payload block h l = rw (le-leb (length payload) 496 h, eq-eqb (length block) 512 l)
+both_fit payload block h l = search rules
 
 -- Of a payload that stands at the front of its block: what the tests tell, and the block when its check was written.
-and_false : (t : Bool) → (t && false) ≡ false
-and_false true = refl
-and_false false = refl
-
 pub no_block : (u : ℕ) (block : List ℕ) → (length block ≡ 512 → ⊥) → fits (take u block) block ≡ false
 unfolding fits
-no_block u block h = rw (ne_eqb (length block) 512 h) (and_false (leb (length (take u block)) 496))
+no_block u block h = search rules
 
 pub too_long : (u : ℕ) (block : List ℕ) → length block ≡ 512 → 496 < u → fits (take u block) block ≡ false
 unfolding fits
-too_long u block l h = rw (lt-leb (length (take u block)) 496 (rw length-take (omega (arith, l, h))))
+too_long u block l h = search (rules, length-take)
 
 pub completed : (u : ℕ) (block : List ℕ) (pack place : ℕ) → length block ≡ 512 → u ≤ 496
     → overwrite u (check u pack place) block ≡ cond (fits (take u block) block) (plain_block (take u block) pack place) block
@@ -271,22 +250,18 @@ completed u block pack place l h =
 -- A block of zeros, and no other, is told to be one, by comparing 512 bytes with the number 0.
 pub zero_only : (C : List ℕ) → is_zero C ≡ true → C ≡ replicate 512 0
 unfolding is_zero
-zero_only C = equal_true C (replicate 512 0)
+zero_only C e = equal_true C (replicate 512 0) e
 
 pub zero_told : (C : List ℕ) → C ≡ replicate 512 0 → is_zero C ≡ true
 unfolding is_zero
 zero_told C e = rw e (equal_refl (replicate 512 0))
 
 pub not_zero : (C : List ℕ) → (C ≡ replicate 512 0 → ⊥) → is_zero C ≡ false
-not_zero C h = by (is_zero C) refl
-  where
-    by : (t : Bool) → is_zero C ≡ t → t ≡ false
-    by false e = refl
-    by true e = absurd (h (zero_only C e))
+not_zero C h = false_from_ne_true (is_zero C) (λ e. h (zero_only C e))
 
 pub zero_length : (C : List ℕ) → (length C ≡ 512 → ⊥) → is_zero C ≡ false
 zero_length C h = not_zero C (λ e. h (ap length e ∙ length-replicate {A = ℕ} 512 0))
 
-pub zero_bytes : (C : List ℕ) → length C ≡ 512 → equal (take 512 (drop 0 C)) (bytes 512 0) ≡ is_zero C
+pub zero_bytes : (C : List ℕ) → length C ≡ 512 → equal C (bytes (length C) 0) ≡ is_zero C
 unfolding is_zero
-zero_bytes C h = rw (take_all 512 C (omega (arith, h)), zeros 512)
+zero_bytes C h = rw (h, zeros 512)

@@ -1,16 +1,14 @@
 -- The part that finding returns, as bytes in memory: where it begins, and what the pack is after it was written to.
 -- Assumes nothing.
 use Prim.Native.Nat.{ℕ, suc, ◌+◌, ◌-◌, ◌*◌, ◌≤◌, ◌<◌}
-use mathlib.Core.Path.{◌≡◌, refl, sym, ap, ◌∙◌, subst}
-use mathlib.Core.List.{List, []}
+use mathlib.Core.Path.{◌≡◌, sym, ap, ◌∙◌, subst}
+use mathlib.Core.List.{List}
 use native.Mathlib.Nat.{add_assoc, add_comm}
 use native.Mathlib.Omega.{arith}
 use denote.Ref.{Bor}
 use lib.ListN.{length, get_or, take, drop}
-use Rattle.strings.specs.declared.refusal.Refusal.{Refusal}
-use Rattle.strings.specs.declared.refusal.Answer.TheVariants.{Done, Refused}
-use Rattle.strings.proofs.Refusals.{refused_some, refused_leaves}
-use Rattle.layout.specs.Finding.{part, with_part, answer_of, found, address, BeginsAt, Holds, Outside, SameOutside, Written}
+use Rattle.std.specs.Prelude.{Ok}
+use Rattle.layout.specs.Finding.{with_part, answer_of, found, address, BeginsAt, Holds, Outside, SameOutside, Written}
 use Rattle.layout.proofs.Parts.{found_within, part_length, found_part, places_apart, before_or_from, with_length, with_before, with_within, with_behind}
 
 -- A byte of a part, as a byte of the pack; so parts of different places have none in common.
@@ -25,7 +23,7 @@ parts_apart p q pack r s at_p at-q i j hi hj e =
     places_apart p q i j hi hj (omega (arith, one))
 
 -- What the pack is after the part r was written to.
-module _ (place : ℕ) (pack r : Bor (List ℕ)) (done : answer_of place pack.now ≡ Done) (long : length r.now ≡ 512) (at : r.ref_ptr ≡ address pack (512 * place)) where
+module _ (place : ℕ) (pack r : Bor (List ℕ)) (done : answer_of place pack.now ≡ Ok tt) (long : length r.now ≡ 512) (at : r.ref_ptr ≡ address pack (512 * place)) where
   second : r.ref_ptr.1 ≡ pack.ref_ptr.1 + 512 * place
   second = ap (λ (p : ℕ × ℕ). p.1) at
 
@@ -79,7 +77,7 @@ module _ (place : ℕ) (pack r : Bor (List ℕ)) (done : answer_of place pack.no
 -- ---- what the code returns: r, as it has its ends, is what is found
 
 module _ (place : ℕ) (pack r : Bor (List ℕ)) where
-  pub part-found : answer_of place pack.now ≡ Done → r.ref_ptr ≡ (pack.ref_ptr.0, 512 * place + pack.ref_ptr.1)
+  pub part-found : answer_of place pack.now ≡ Ok tt → r.ref_ptr ≡ (pack.ref_ptr.0, 512 * place + pack.ref_ptr.1)
       → r.now ≡ take (512 * place + 512 - 512 * place) (drop (512 * place) pack.now)
       → (r.now ≡ found place pack.now) × (BeginsAt place pack r × Written place pack r)
   part-found done at is =
@@ -87,14 +85,3 @@ module _ (place : ℕ) (pack r : Bor (List ℕ)) where
       let long : length r.now ≡ 512 = ap length (is ∙ found_part place pack.now done) ∙ rw done (part_length place pack.now room) in
       let begins : r.ref_ptr ≡ address pack (512 * place) = at ∙ ap (λ (n : ℕ). (pack.ref_ptr.0, n)) (add_comm (512 * place) pack.ref_ptr.1) in
       (is ∙ found_part place pack.now done, (λ e. begins, done_written place pack r done long begins))
-
-  pub nothing_found : {why : Refusal} → answer_of place pack.now ≡ Refused why → r.now ≡ [] → (r.now ≡ found place pack.now) × (BeginsAt place pack r × Written place pack r)
-  nothing_found refused is = (
-    is ∙ refused_leaves refused (part place pack.now) [],
-    (
-      λ e. absurd (refused_some refused e),
-      λ memory block in-r same.
-          subst (Holds memory pack) (refused_leaves refused (with_part place block pack.now) pack.now)
-          (record { same_length = refl; same_bytes = λ i h. same i h (λ j below same. absurd (omega (arith, ap length is, below))) }),
-    ),
-  )

@@ -1,8 +1,7 @@
 -- Point 1 of 02: where a block stands in a pack, and what finding answers.
 use Rattle.std.specs.Prelude.{ℕ, zero, suc, ◌+◌, ◌*◌, ◌/◌, ◌%◌, ◌<◌, ◌≡◌, Bool, not, ◌&&◌, List, [], ◌∷◌, ◌++◌, leb, eqb, length, get_or, take, drop}
 use Rattle.std.specs.Borrow.{Bor}
-use Rattle.strings.specs.Call.{number_of, Tests, looks_at, left_by}
-use Rattle.strings.specs.declared.refusal.Answer.{Answer}
+use Rattle.strings.specs.Call.{number_of, Answer, Tests, looks_at, left_by}
 use Rattle.strings.specs.declared.refusal.Refusal.TheVariants.{PackLength, PlaceTooHigh}
 
 -- How many whole blocks of 512 bytes a string has: n, where it is a pack.

@@ -3,30 +3,24 @@ ghost use Rattle.std.specs.Prelude.{◌≡◌};
 ghost use denote.MutBor.{as_bor};
 ghost use Rattle.layout.specs.Finding.{is_pack, answer_of, found, BeginsAt, Written};
 
-use strings::refusal::{Answer, Refusal};
+use strings::refusal::{Refusal, refuse_if};
 
 // Whether a string is 1 to 128 whole blocks.
+#[tactic(auto, unfolding(crate::specs::Finding::is_pack))]
 pub fn is_pack(s: &[u8]) -> bool
     ensures { result ≡ is_pack s.now }
 {
     let n = s.len() / 512;
-    if s.len() % 512 != 0 {
-        return false;
-    }
-    if n < 1 {
-        return false;
-    }
-    n <= 128
+    s.len() % 512 == 0 && 1 <= n && n <= 128
 }
 
 // Whether the block of a place can be found, or why not, in 02's order.
-pub fn find_answer(pack: &[u8], place: u32) -> Answer
+#[tactic(auto, unfolding(crate::specs::Finding::tests))]
+pub fn find_answer(pack: &[u8], place: u32) -> Result<(), Refusal>
     ensures { result ≡ answer_of place pack.now }
 {
-    let whole = is_pack(pack);
-    Answer::Done
-        .refuse_if(!whole, Refusal::PackLength)
-        .refuse_if(pack.len() / 512 <= place as usize, Refusal::PlaceTooHigh)
+    refuse_if(!is_pack(pack), Refusal::PackLength)?;
+    refuse_if(pack.len() / 512 <= place as usize, Refusal::PlaceTooHigh)
 }
 
 // The block of a place, to be read, as a part of the lent pack; the empty part where it cannot be found.
@@ -34,12 +28,11 @@ pub fn find(pack: &[u8], place: u32) -> &[u8]
     ensures result_value { result.now ≡ found place pack.now }
     ensures begins_at { BeginsAt place pack.entry result }
 {
-    let answer = find_answer(pack, place);
-    if let Answer::Done = answer {
-        let at = 512 * place as usize;
-        return &pack[at..at + 512];
-    }
-    &pack[0..0]
+    let Ok(()) = find_answer(pack, place) else {
+        return &pack[0..0];
+    };
+    let at = 512 * place as usize;
+    &pack[at..at + 512]
 }
 
 // The same part, to be written to. That the pack is not written to here is for a reader to see: no clause says what is left of a pack whose part is handed out.
@@ -48,10 +41,9 @@ pub fn find_mut(pack: &mut [u8], place: u32) -> &mut [u8]
     ensures begins_at { BeginsAt place (as_bor pack.entry) (as_bor result) }
     ensures written { Written place (as_bor pack.entry) (as_bor result) }
 {
-    let answer = find_answer(pack, place);
-    if let Answer::Done = answer {
-        let first = 512 * place as usize;
-        return &mut pack[first..first + 512];
-    }
-    &mut pack[0..0]
+    let Ok(()) = find_answer(pack, place) else {
+        return &mut pack[0..0];
+    };
+    let first = 512 * place as usize;
+    &mut pack[first..first + 512]
 }

@@ -4,9 +4,9 @@ use native.Mathlib.Omega.{arith}
 use Rattle.layout.proofs.Parts.{found_within, found_part}
 use Rattle.layout.proofs.finding.find.Goals as goal
 
-pub slice_bounds-result-end : goal.slice_bounds-result-end
-slice_bounds-result-end c =
-    omega (arith, found_within c.args.place c.args.pack.now (sym c.find_answer-answer.ensures ∙ c.in-Done.is))
+pub slice_bounds-result-end-2 : goal.slice_bounds-result-end-2
+slice_bounds-result-end-2 c =
+    omega (arith, found_within c.args.place c.args.pack.now (sym c.find_answer.ensures ∙ c.in-Ok.is))
 
-pub returns-in-Done-clause-result_value : goal.returns-in-Done-clause-result_value
-returns-in-Done-clause-result_value c = found_part c.args.place c.args.pack.now (sym c.find_answer-answer.ensures ∙ c.in-Done.is)
+pub returns-clause-result_value : goal.returns-clause-result_value
+returns-clause-result_value c = found_part c.args.place c.args.pack.now (sym c.find_answer.ensures ∙ c.in-Ok.is)
