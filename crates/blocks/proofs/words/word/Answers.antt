@@ -1,7 +1,7 @@
 -- The four bytes, added up from the highest.
 use native.Mathlib.Omega.{arith}
 use Rattle.strings.specs.Bytes.{number}
-use Rattle.strings.proofs.number.word.Goals as goal
+use Rattle.blocks.proofs.words.word.Goals as goal
 
 pub returns : goal.returns
 unfolding number

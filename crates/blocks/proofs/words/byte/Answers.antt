@@ -4,7 +4,7 @@ use mathlib.Core.Path.{◌≡◌, refl}
 use native.Mathlib.Omega.{arith}
 use lib.ListN.{get_or}
 use Rattle.strings.specs.Bytes.{bytes}
-use Rattle.strings.proofs.number.byte.Goals as goal
+use Rattle.blocks.proofs.words.byte.Goals as goal
 
 shifted : (w i : ℕ) → i < 4 → w / 2 ^ (24 - 8 * i) % 256 ≡ get_or (bytes 4 w) i 0
 unfolding bytes
