@@ -1,5 +1,5 @@
 -- Laws of this crate's definitions. `Written`: an answer at the front of what was lent for it. `Requests`: what the fields of a line say. `Chunks`: an
--- input in chunks. `Used`: how much of a chunk a call uses up.
+-- input in chunks. `Used`: how much of a chunk a call uses up. `Calls`: what a call of the library answers, as the result of a line.
 pub mod Written
 pub mod Requests
 pub mod Chunks

@@ -32,11 +32,7 @@ written_front {out} bytes e l h = record { counted = e; written = l ∙ overwrit
 pub front_more : (a b out : List ℕ) {n : ℕ} → n ≡ length a → overwrite n b (overwrite 0 a out) ≡ overwrite 0 (a ++ b) out
 front_more a b out e = rw (e, overwrite-append 0 a b out, zero-add) refl
 
--- What was written stands within what is left.
-pub written_within : {bytes out left : List ℕ} {count : ℕ} → Written bytes count out left → count ≤ length left
-written_within {bytes} {out} w = rw (w.written, w.counted, length-append bytes (drop (length bytes) out)) (omega arith)
-
--- They are the first bytes there.
+-- What was written are the first bytes that are left.
 pub written_bytes : {bytes out left : List ℕ} {count : ℕ} → Written bytes count out left → take count left ≡ bytes
 written_bytes {bytes} {out} w = rw (w.written, w.counted, take_at bytes (drop (length bytes) out))
 
