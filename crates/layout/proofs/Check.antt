@@ -8,10 +8,10 @@ use native.Mathlib.Nat.{zero-div, zero-add, mod-eq_of_lt}
 use native.Mathlib.Omega.{arith}
 use borrow.Author.Tests.{le-leb, leb-true}
 use lib.Dec.{leb}
-use lib.ListN.{length, take, drop, replicate, length-append, length-replicate, length-drop, length-take, take-append-drop}
+use lib.ListN.{length, get_or, take, drop, replicate, length-append, length-replicate, length-drop, length-take, take-append-drop}
 use lib.Seq.{drop-drop, drop_at, take_all, take_at, length-take-le}
-use Rattle.std.proofs.Common.{rules}
-use Rattle.std.proofs.lemmas.Bool.{false_from_ne_true}
+use Rattle.std.proofs.Common.{rules, Fits, w8}
+use Rattle.std.proofs.lemmas.Bool.{false_from_ne_true, lt-leb}
 use Rattle.std.proofs.lemmas.Grind.{common_steps}
 use Rattle.strings.specs.Bytes.{Bytes, OfLength, number, bytes, equal}
 use Rattle.strings.specs.Inner.{padded, overwrite}
@@ -24,9 +24,9 @@ use Rattle.std.specs.Prelude.{Some, None}
 use Rattle.std.specs.Bool.{then_some}
 
 -- u is two bytes.
-pub used-bytes : (B : List ℕ) → OfLength 512 B → number (padded 2 (drop 508 B)) % 2 ^ 64 ≡ used B
+pub used_bytes : (B : List ℕ) → OfLength 512 B → number (padded 2 (drop 508 B)) % 2 ^ 64 ≡ used B
 unfolding used
-used-bytes B h =
+used_bytes B h =
     let two : 2 ≤ length (drop 508 B) = rw (length-drop, h.0) (omega arith) in
     rw (padded-take 2 (drop 508 B) two) (mod-eq_of_lt (rw (padded-take 2 (drop 508 B) two) at (number_fits 2 8 508 B h.1 (omega arith))))
 
@@ -128,12 +128,12 @@ own_part B h =
     rw back (equal_refl (take 2 (drop 508 B)))
 
 -- The check is passed where each part of it is what it should be; u is read from its own part.
-pub passes-parts : (pack place : ℕ) (B : List ℕ) → OfLength 512 B → used B ≤ 496 → let u = used B in
+pub passes_parts : (pack place : ℕ) (B : List ℕ) → OfLength 512 B → used B ≤ 496 → let u = used B in
     passes pack place B
     ≡ (equal (take (496 - u) (drop u B)) (bytes (496 - u) 0) && equal (take 8 (drop 496 B)) (bytes 8 pack)
     && equal (take 4 (drop 504 B)) (bytes 4 place) && equal (take 2 (drop 510 B)) (bytes 2 0))
 unfolding passes
-passes-parts pack place B h l =
+passes_parts pack place B h l =
     let u = used B in
     let filling = equal (take (496 - u) (drop u B)) (bytes (496 - u) 0) in
     let number = equal (take 8 (drop 496 B)) (bytes 8 pack) in
@@ -215,8 +215,15 @@ passed_length pack place B e =
     ap length (equal_true (drop (used B) B) (check (used B) pack place) parts.1) ∙ length-check (used B) pack place in
     omega (arith, leb-true (used B) 496 parts.0, same, length-drop (used B) B)
 
-pub passes-length : (pack place : ℕ) (B : List ℕ) → (length B ≡ 512 → ⊥) → passes pack place B ≡ false
-passes-length pack place B h = false_from_ne_true (passes pack place B) (λ e. h (passed_length pack place B e))
+pub passes_length : (pack place : ℕ) (B : List ℕ) → (length B ≡ 512 → ⊥) → passes pack place B ≡ false
+passes_length pack place B h = false_from_ne_true (passes pack place B) (λ e. h (passed_length pack place B e))
+
+-- As the code reads u.
+pub too_much_used : (pack place : ℕ) (B : List ℕ) → length B ≡ 512 → ((i : ℕ) → Fits w8 (get_or B i 0))
+    → 496 < number (padded 2 (drop 508 B)) % 2 ^ 64 → passes pack place B ≡ false
+unfolding passes
+too_much_used pack place B long fit h =
+    rw (lt-leb (used B) 496 (omega (arith, h, used_bytes B (long, λ i. (fit i).fits))))
 
 -- What was read tells of the check.
 module _ (pack place : ℕ) (B : List ℕ) where

@@ -24,6 +24,7 @@ pub fn find_answer(pack: &[u8], place: u32) -> Result<(), Refusal>
 }
 
 // The block of a place, to be read, as a part of the lent pack; the empty part where it cannot be found.
+#[tactic(auto, using(crate::proofs::Parts::found_within, crate::proofs::Parts::found_part))]
 pub fn find(pack: &[u8], place: u32) -> &[u8]
     ensures result_value { result.now ≡ found place pack.now }
     ensures begins_at { BeginsAt place pack.entry result }

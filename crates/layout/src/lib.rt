@@ -84,7 +84,7 @@ impl Position {
     }
 
     // Writes the check behind the payload of u bytes that a block begins with, or nothing where either has another length.
-    #[tactic(auto, using(crate::proofs::Check::completed, crate::proofs::Check::too_long, crate::proofs::Check::no_block))]
+    #[tactic(auto, using(crate::proofs::Check::completed, crate::proofs::Check::too_long), unfolding(crate::specs::Inner::fits))]
     pub fn complete(self, u: usize, block: &mut [u8])
         ensures { block.new ≡ cond (fits (take u block.old) block.old) (plain_block (take u block.old) self.pack self.place) block.old }
     {
@@ -98,6 +98,7 @@ impl Position {
     }
 
     // The length of the payload of a block that passes its check; all of the check is compared.
+    #[tactic(auto, using(crate::proofs::Check::passes_length, crate::proofs::Check::too_much_used))]
     pub fn read(self, block: &[u8]) -> Option<usize>
         ensures { result ≡ then_some (passes self.pack self.place block.now) (used block.now) }
     {
@@ -118,6 +119,7 @@ impl Position {
 }
 
 // Whether a block is 512 zeros; every byte of it is looked at.
+#[tactic(auto, using(crate::proofs::Check::zero_length, crate::proofs::Check::zero_bytes))]
 pub fn is_zero(block: &[u8]) -> bool
     ensures { result ≡ is_zero block.now }
 {

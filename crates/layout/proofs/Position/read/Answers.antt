@@ -3,13 +3,12 @@ use Prim.Native.Nat.{ℕ, ◌+◌, ◌-◌, ◌≤◌}
 use mathlib.Core.Path.{◌≡◌, ◌∙◌}
 use mathlib.Core.List.{List}
 use native.Mathlib.Omega.{arith}
-use borrow.Author.Tests.{lt-leb}
 use lib.Dec.{eqb}
 use lib.ListN.{length, take, drop, length-drop}
 use lib.Seq.{length-take-le}
 use Rattle.strings.specs.Bytes.{bytes, equal}
-use Rattle.layout.specs.Layout.{used, passes}
-use Rattle.layout.proofs.Check.{used-bytes, passes-length, passes-parts}
+use Rattle.layout.specs.Layout.{used}
+use Rattle.layout.proofs.Check.{used_bytes, passes_parts}
 use Rattle.layout.proofs.Comparison.{none_of_four}
 use Rattle.layout.proofs.Position.read.Goals as goal
 
@@ -19,25 +18,13 @@ compared : (d i n value : ℕ) (B : List ℕ) → length B ≡ 512 → i + n ≤
 compared d i n value B long within h =
     rw (length-take-le n (drop i B) (rw (length-drop, long) (omega (arith, within)))) at h
 
-pub returns-then-block-ne512 : goal.returns-then-block-ne512
-returns-then-block-ne512 c =
-    let a = c.args in
-    rw (passes-length a.self.pack a.self.place a.block.now c.if-block-ne512.true)
-
-pub returns-then-u-gt496 : goal.returns-then-u-gt496
-unfolding passes
-returns-then-u-gt496 c =
-    let B = c.args.block.now in
-    let u = used-bytes B (c.if-block-ne512.false, λ i. (c.type_inv.block i).fits) in
-    rw (lt-leb (used B) 496 (omega (arith, c.get-u.ensures, u, c.if-u-gt496.true)))
-
 pub returns : goal.returns
 returns c =
     let a = c.args in
     let B = a.block.now in
     let long = c.if-block-ne512.false in
     let u = c.get-u.result in
-    let is : u ≡ used B = c.get-u.ensures ∙ used-bytes B (long, λ i. (c.type_inv.block i).fits) in
+    let is : u ≡ used B = c.get-u.ensures ∙ used_bytes B (long, λ i. (c.type_inv.block i).fits) in
     let filling = compared _ u (496 - u) 0 B long (omega (arith, c.if-u-gt496.false)) c.difference-filling_differs.ensures in
     let pack = compared _ 496 8 a.self.pack B long (omega arith) c.difference-pack_differs.ensures in
     let place = compared _ 504 4 a.self.place B long (omega arith) c.difference-place_differs.ensures in
@@ -45,6 +32,6 @@ returns c =
     rw (
       c.then_some.ensures,
       none_of_four _ _ _ _ (rw is at filling) pack place zeros,
-      passes-parts a.self.pack a.self.place B (long, λ i. (c.type_inv.block i).fits) (rw is at c.if-u-gt496.false),
+      passes_parts a.self.pack a.self.place B (long, λ i. (c.type_inv.block i).fits) (rw is at c.if-u-gt496.false),
       is,
     )
