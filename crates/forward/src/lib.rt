@@ -16,10 +16,10 @@ ghost use Rattle.forward.specs.Call.{tests_behind_key, answer_of, answer_behind_
 ghost use Rattle.forward.specs.Expanded.{forward_under};
 
 use blocks::block::{Block, Pair};
-use primitives::aes::{ExpandedKey, Expansion};
-use primitives::{aes, field};
+use primitives::aes::ExpandedKey;
+use primitives::field;
 use strings::message;
-use strings::refusal::{Answer, Refusal};
+use strings::refusal::Refusal;
 
 // The hash key of Table 3.
 #[derive(Clone, Copy)]
@@ -30,26 +30,8 @@ struct Key {
     beta2: Block,
 }
 
-// Whether the scheme takes the key: AES's test.
-pub fn is_key(key: &[u8]) -> bool
-    ensures { result ≡ scheme.is_key key.now }
-{
-    aes::is_key(key)
-}
-
-// Expands a key for many messages, and says whether it is one. The scheme under the expanded key is the scheme under the key, and a tweakable cipher of each
-// length.
-pub fn expand(key: &[u8]) -> Expansion
-    ensures is_key_value { result.is_key ≡ scheme.is_key key.now }
-    ensures expanded_value { result.expanded ≡ expanded_key key.now }
-    ensures same { scheme.is_key key.now ≡ true → Same (forward_under result.expanded) [] scheme key.now }
-    ensures by_index { (n : ℕ) → 33 ≤ n → TweakableCipher 16 n ((forward_under result.expanded).encipher []) ((forward_under result.expanded).decipher []) }
-{
-    ExpandedKey::new(key)
-}
-
 // What a call looks at behind its key, in 02's order.
-fn judge(tweak: &[u8], message: &[u8]) -> Answer
+fn judge(tweak: &[u8], message: &[u8]) -> Result<(), Refusal>
     ensures { result ≡ looks_at (tests_behind_key tweak.now message.now) }
 {
     message::judge(33, Refusal::ForwardTooShort, tweak, message)
@@ -162,54 +144,27 @@ fn decipher_message(expanded: ExpandedKey, tweak: Block, message: &mut [u8])
 }
 
 // Enciphers the message in place under a key that was expanded before, or refuses and leaves it as it is.
-pub fn encipher_with(expanded: ExpandedKey, tweak: &[u8], message: &mut [u8]) -> Answer
+pub fn encipher_with(expanded: ExpandedKey, tweak: &[u8], message: &mut [u8]) -> Result<(), Refusal>
     ensures value { result ≡ answer_behind_key tweak.now message.old }
     ensures message_after { message.new ≡ left_by (number_of result) ((forward_under expanded).encipher [] tweak.now message.old) message.old }
     ensures cipher { IsCipher (forward_under expanded) (number_of result) [] tweak.now (length message.old) }
 {
-    let answer = judge(tweak, message);
-    if let Answer::Done = answer {
-        encipher_message(expanded, Block::read(tweak, 0), message);
-    }
-    answer
+    judge(tweak, message)?;
+    encipher_message(expanded, Block::read(tweak, 0), message);
+    Ok(())
 }
 
 // Deciphers the ciphertext in place under a key that was expanded before, or refuses and leaves it as it is.
-pub fn decipher_with(expanded: ExpandedKey, tweak: &[u8], ciphertext: &mut [u8]) -> Answer
+pub fn decipher_with(
+    expanded: ExpandedKey,
+    tweak: &[u8],
+    ciphertext: &mut [u8],
+) -> Result<(), Refusal>
     ensures value { result ≡ answer_behind_key tweak.now ciphertext.old }
     ensures ciphertext_after { ciphertext.new ≡ left_by (number_of result) ((forward_under expanded).decipher [] tweak.now ciphertext.old) ciphertext.old }
     ensures cipher { IsCipher (forward_under expanded) (number_of result) [] tweak.now (length ciphertext.old) }
 {
-    let answer = judge(tweak, ciphertext);
-    if let Answer::Done = answer {
-        decipher_message(expanded, Block::read(tweak, 0), ciphertext);
-    }
-    answer
-}
-
-// Enciphers the message in place, or refuses and leaves it as it is.
-pub fn encipher(key: &[u8], tweak: &[u8], message: &mut [u8]) -> Answer
-    ensures value { result ≡ answer_of key.now tweak.now message.old }
-    ensures message_after { message.new ≡ left_by (number_of result) (enciphered key.now tweak.now message.old) message.old }
-    ensures cipher { IsCipher scheme (number_of result) key.now tweak.now (length message.old) }
-{
-    let expansion = expand(key);
-    if expansion.is_key {
-        return encipher_with(expansion.expanded, tweak, message);
-    }
-    Answer::Refused(Refusal::KeyLength)
-}
-
-// Deciphers the ciphertext in place, or refuses and leaves it as it is.
-pub fn decipher(key: &[u8], tweak: &[u8], ciphertext: &mut [u8]) -> Answer
-    ensures value { result ≡ answer_of key.now tweak.now ciphertext.old }
-    ensures ciphertext_after { ciphertext.new ≡ left_by (number_of result) (deciphered key.now tweak.now ciphertext.old) ciphertext.old }
-    ensures cipher { IsCipher scheme (number_of result) key.now tweak.now (length ciphertext.old) }
-    ensures one_plaintext { OnePlaintext scheme (number_of result) key.now tweak.now ciphertext.old ciphertext.new }
-{
-    let expansion = expand(key);
-    if expansion.is_key {
-        return decipher_with(expansion.expanded, tweak, ciphertext);
-    }
-    Answer::Refused(Refusal::KeyLength)
+    judge(tweak, ciphertext)?;
+    decipher_message(expanded, Block::read(tweak, 0), ciphertext);
+    Ok(())
 }

@@ -1,8 +1,7 @@
 -- The two calls: what they answer.
 use Rattle.std.specs.Prelude.{ℕ, List}
-use Rattle.strings.specs.Call.{Tests, looks_at}
+use Rattle.strings.specs.Call.{Answer, Tests, looks_at}
 use Rattle.strings.specs.Message as Message
-use Rattle.strings.specs.declared.refusal.Answer.{Answer}
 use Rattle.strings.specs.declared.refusal.Refusal.TheVariants.{TooShort}
 use Rattle.hch.specs.Hch.{hch}
 

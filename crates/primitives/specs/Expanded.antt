@@ -1,5 +1,7 @@
 -- The expanded key of the code, a record of words and the number of rounds: what it is made of, and the block cipher that it stands for.
-use Rattle.std.specs.Prelude.{ℕ, ◌-◌, ◌*◌, min, max, cond, List, ◌++◌, replicate}
+use Rattle.std.specs.Prelude.{ℕ, ◌-◌, ◌*◌, min, max, cond, List, ◌++◌, replicate, Result, Ok, Err}
+use Rattle.strings.specs.declared.refusal.Refusal.{Refusal}
+use Rattle.strings.specs.declared.refusal.Refusal.TheVariants.{KeyLength}
 use Rattle.blocks.specs.BlockCipher.{BlockCipher}
 use Rattle.primitives.specs.Aes.{key_expansion, Nr, is_key, NkOf, encipher, decipher}
 use Rattle.primitives.specs.declared.aes.ExpandedKey.{ExpandedKey}
@@ -14,6 +16,10 @@ expanded_key key =
     cond (is_key key)
     (record { words = held_words (NkOf key) key; rounds = Nr (NkOf key) })
     (record { words = replicate 60 0; rounds = 0 })
+
+-- What expanding a string answers: number 1 for what is no key.
+abbrev pub expansion_of : List ℕ → Result ExpandedKey Refusal
+expansion_of key = cond (is_key key) (Ok (expanded_key key)) (Err KeyLength)
 
 -- The rounds that are done: as many as the record says, but at least two, and no more than there are round keys in the array.
 abbrev pub rounds_done : ℕ → ℕ

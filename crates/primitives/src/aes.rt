@@ -9,10 +9,11 @@ ghost use Rattle.blocks.specs.Counter.{masked_bytes, φ};
 ghost use Rattle.blocks.specs.Inner.{value};
 ghost use Rattle.primitives.specs.Inner.{Table, CipherTable, InvCipherTables, of_columns, HasRoundKeys};
 ghost use Rattle.primitives.specs.Aes.{s_box, sub_word, rcon, temp, key_words, round_key, cipher, inv_cipher, encipher, is_key};
-ghost use Rattle.primitives.specs.Expanded.{held_words, expanded_key, rounds_done, under};
+ghost use Rattle.primitives.specs.Expanded.{held_words, expansion_of, rounds_done, under};
 
 use crate::{field, inv_mixing, inv_sbox, mixed_sbox, sbox, state};
 use blocks::block::Block;
+use strings::refusal::{Refusal, refuse_if};
 use strings::{number, places};
 
 // The first bytes of Rcon, 5.2.
@@ -23,13 +24,6 @@ const RCON: [u8; 10] = [0x01, 0x02, 0x04, 0x08, 0x10, 0x20, 0x40, 0x80, 0x1b, 0x
 pub struct ExpandedKey {
     pub words: [u32; 60],
     pub rounds: usize,
-}
-
-// What comes of a string that is to be a key: whether it is one, and the key expanded, with 10 rounds or 14 as it has 16 bytes or 32.
-#[derive(Clone, Copy)]
-pub struct Expansion {
-    pub is_key: bool,
-    pub expanded: ExpandedKey,
 }
 
 // SubWord, 5.2.
@@ -221,27 +215,17 @@ fn rounds_done(rounds: usize) -> usize
 }
 
 impl ExpandedKey {
-    // Expands a key, and says whether it is one and, by the number of rounds, of which length. From any other string come zeros.
-    pub fn new(key: &[u8]) -> Expansion
-        ensures is_key_value { result.is_key ≡ is_key key.now }
-        ensures expanded_value { result.expanded ≡ expanded_key key.now }
+    // Expands a key, by its length one of 16 bytes or of 32; any other string is refused.
+    pub fn new(key: &[u8]) -> Result<ExpandedKey, Refusal>
+        ensures { result ≡ expansion_of key.now }
     {
-        if !is_key(key) {
-            let words = [0u32; 60];
-            return Expansion {
-                is_key: false,
-                expanded: ExpandedKey { words, rounds: 0 },
-            };
-        }
+        refuse_if(!is_key(key), Refusal::KeyLength)?;
         let nk = key.len() / 4;
         let words = key_expansion(key, nk);
-        Expansion {
-            is_key: true,
-            expanded: ExpandedKey {
-                words,
-                rounds: nk + 6,
-            },
-        }
+        Ok(ExpandedKey {
+            words,
+            rounds: nk + 6,
+        })
     }
 
     // E of a block.

@@ -1,28 +1,18 @@
--- The schemes by name. A new scheme is a name more, and a case more of each definition.
-use Rattle.std.specs.Prelude.{ℕ, List}
-use Rattle.strings.specs.Cipher.{Scheme}
-use Rattle.strings.specs.declared.refusal.Answer.{Answer}
+-- What a scheme over AES has to show, so that its calls, and what stands above them, are written once.
+use Rattle.std.specs.Prelude.{ℕ, ◌≤◌, ◌≡◌, true, List, []}
+use Rattle.strings.specs.Cipher.{TweakableCipher, Scheme, Same}
+use Rattle.primitives.specs.Aes.{is_key}
+use Rattle.primitives.specs.Expanded.{expanded_key}
 use Rattle.primitives.specs.declared.aes.ExpandedKey.{ExpandedKey}
-use Rattle.hch.specs.Hch.{hch}
-use Rattle.hch.specs.Expanded.{hch_under}
-use Rattle.hch.specs.Call.{answer_behind_key as answer_of_hch}
-use Rattle.forward.specs.Forward.{forward}
-use Rattle.forward.specs.Expanded.{forward_under}
-use Rattle.forward.specs.Call.{answer_behind_key as answer_of_forward}
-use Rattle.schemes.specs.declared.SchemeName.{SchemeName}
-use Rattle.schemes.specs.declared.SchemeName.TheVariants.{Hch, Forward}
 
--- The scheme of a name.
-abbrev pub scheme_of : SchemeName → Scheme
-scheme_of Hch = hch
-scheme_of Forward = forward
-
--- The same under a key that was expanded before.
-abbrev pub scheme_under : SchemeName → ExpandedKey → Scheme
-scheme_under Hch expanded = hch_under expanded
-scheme_under Forward expanded = forward_under expanded
-
--- What its calls answer under such a key.
-abbrev pub answer_behind_key : SchemeName → (tweak message : List ℕ) → Answer
-answer_behind_key Hch tweak message = answer_of_hch tweak message
-answer_behind_key Forward tweak message = answer_of_forward tweak message
+-- The scheme S, and the same under a key that was expanded before, for messages of `least` bytes or more.
+pub record SchemeLaws (S : Scheme) (under : ExpandedKey → Scheme) (least : ℕ) : Type 0 where
+  -- Its keys are AES's; under an expanded key no key is looked at.
+  pub keys : (key : List ℕ) → S.is_key key ≡ is_key key
+  pub any_key : (expanded : ExpandedKey) (key : List ℕ) → (under expanded).is_key key ≡ true
+  -- Under what is made of a key it is the scheme under the key.
+  pub same : (key : List ℕ) → S.is_key key ≡ true → Same (under (expanded_key key)) [] S key
+  -- It is a tweakable cipher of each length that it takes, under any expanded key.
+  pub cipher : (expanded : ExpandedKey) (n : ℕ) → least ≤ n → TweakableCipher 16 n ((under expanded).encipher []) ((under expanded).decipher [])
+  -- It takes blocks of 512 bytes.
+  pub takes_blocks : least ≤ 512

@@ -1,68 +1,153 @@
-// The schemes by name: one value says which of them is used, so that what stands above them is written once.
+// What a tweakable enciphering scheme over AES is to its callers, the two schemes that there are, and the calls under a key, written once for both.
 #![tactic(auto)]
 
-ghost use Rattle.std.specs.Prelude.{ℕ, ◌≤◌, ◌≡◌, true, [], length};
-ghost use Rattle.strings.specs.Cipher.{TweakableCipher, Same};
-ghost use Rattle.strings.specs.Call.{number_of, left_by};
-ghost use Rattle.strings.specs.Message.{IsCipher};
+ghost use Rattle.std.specs.Prelude.{ℕ, ◌≤◌, ◌≡◌, [], cond, length, Ok, Err, IfOk};
+ghost use Rattle.strings.specs.Cipher.{TweakableCipher, Scheme as TheScheme, Same};
+ghost use Rattle.strings.specs.Call.{number_of, looks_at, left_by};
+ghost use Rattle.strings.specs.Message.{tests, tests_behind_key, IsCipher, OnePlaintext};
+ghost use Rattle.strings.specs.declared.refusal.Refusal.{Refusal};
+ghost use Rattle.strings.specs.declared.refusal.Refusal.TheVariants.{KeyLength, TooShort, ForwardTooShort};
 ghost use Rattle.primitives.specs.Expanded.{expanded_key};
-ghost use Rattle.schemes.specs.Schemes.{scheme_of, scheme_under, answer_behind_key};
+ghost use Rattle.primitives.specs.declared.aes.ExpandedKey.{ExpandedKey};
+ghost use Rattle.hch.specs.Hch.{hch};
+ghost use Rattle.hch.specs.Expanded.{hch_under};
+ghost use Rattle.forward.specs.Forward.{forward};
+ghost use Rattle.forward.specs.Expanded.{forward_under};
+ghost use Rattle.schemes.specs.Schemes.{SchemeLaws};
+ghost use Rattle.schemes.specs.Laws.{hch_laws, forward_laws};
 
-use primitives::aes::{ExpandedKey, Expansion};
-use strings::refusal::Answer;
+use primitives::aes;
+use primitives::aes::ExpandedKey;
+use strings::refusal::Refusal;
 
-#[derive(Clone, Copy)]
-pub enum SchemeName {
-    Hch,
-    Forward,
-}
+// A new scheme is an `impl` more.
+pub trait Scheme {
+    // The scheme, and the same under a key that was expanded before.
+    ghost scheme: { TheScheme };
 
-impl SchemeName {
-    // Whether the scheme takes the key.
-    pub fn is_key(self, key: &[u8]) -> bool
-        ensures { result ≡ (scheme_of self).is_key key.now }
-    {
-        match self {
-            SchemeName::Hch => hch::is_key(key),
-            SchemeName::Forward => forward::is_key(key),
-        }
-    }
+    ghost under: { ExpandedKey → TheScheme };
 
-    // Expands a key for many messages, and says whether it is one. The scheme under the expanded key is the scheme under the key, and a tweakable cipher of each
-    // length that every scheme takes.
-    pub fn expand(self, key: &[u8]) -> Expansion
-        ensures is_key_value { result.is_key ≡ (scheme_of self).is_key key.now }
-        ensures expanded_value { result.expanded ≡ expanded_key key.now }
-        ensures same { (scheme_of self).is_key key.now ≡ true → Same (scheme_under self result.expanded) [] (scheme_of self) key.now }
-        ensures by_index { (n : ℕ) → 33 ≤ n → TweakableCipher 16 n ((scheme_under self result.expanded).encipher []) ((scheme_under self result.expanded).decipher []) }
-    {
-        match self {
-            SchemeName::Hch => hch::expand(key),
-            SchemeName::Forward => forward::expand(key),
-        }
-    }
+    // The least length of a message, and why a shorter one is refused.
+    ghost least: { ℕ };
+
+    ghost short: { Refusal };
+
+    // What each `impl` must prove.
+    ghost laws: { SchemeLaws scheme under least };
 
     // Enciphers the message in place under a key that was expanded before, or refuses and leaves it as it is.
-    pub fn encipher_with(self, expanded: ExpandedKey, tweak: &[u8], message: &mut [u8]) -> Answer
-        ensures value { result ≡ answer_behind_key self tweak.now message.old }
-        ensures message_after { message.new ≡ left_by (number_of result) ((scheme_under self expanded).encipher [] tweak.now message.old) message.old }
-        ensures cipher { IsCipher (scheme_under self expanded) (number_of result) [] tweak.now (length message.old) }
-    {
-        match self {
-            SchemeName::Hch => hch::encipher_with(expanded, tweak, message),
-            SchemeName::Forward => forward::encipher_with(expanded, tweak, message),
-        }
-    }
+    fn encipher_with(expanded: ExpandedKey, tweak: &[u8], message: &mut [u8]) -> Result<(), Refusal>
+        ensures value { result ≡ looks_at (tests_behind_key least short tweak.now message.old) }
+        ensures message_after { message.new ≡ left_by (number_of result) ((under expanded).encipher [] tweak.now message.old) message.old }
+        ensures cipher { IsCipher (under expanded) (number_of result) [] tweak.now (length message.old) };
 
     // Deciphers the ciphertext in place under a key that was expanded before, or refuses and leaves it as it is.
-    pub fn decipher_with(self, expanded: ExpandedKey, tweak: &[u8], ciphertext: &mut [u8]) -> Answer
-        ensures value { result ≡ answer_behind_key self tweak.now ciphertext.old }
-        ensures ciphertext_after { ciphertext.new ≡ left_by (number_of result) ((scheme_under self expanded).decipher [] tweak.now ciphertext.old) ciphertext.old }
-        ensures cipher { IsCipher (scheme_under self expanded) (number_of result) [] tweak.now (length ciphertext.old) }
-    {
-        match self {
-            SchemeName::Hch => hch::decipher_with(expanded, tweak, ciphertext),
-            SchemeName::Forward => forward::decipher_with(expanded, tweak, ciphertext),
-        }
+    fn decipher_with(
+        expanded: ExpandedKey,
+        tweak: &[u8],
+        ciphertext: &mut [u8],
+    ) -> Result<(), Refusal>
+        ensures value { result ≡ looks_at (tests_behind_key least short tweak.now ciphertext.old) }
+        ensures ciphertext_after { ciphertext.new ≡ left_by (number_of result) ((under expanded).decipher [] tweak.now ciphertext.old) ciphertext.old }
+        ensures cipher { IsCipher (under expanded) (number_of result) [] tweak.now (length ciphertext.old) };
+}
+
+// HCH.
+pub struct Hch;
+
+impl Scheme for Hch {
+    ghost scheme = { hch };
+
+    ghost under = { hch_under };
+
+    ghost least = { 16 };
+
+    ghost short = { TooShort };
+
+    ghost laws = { hch_laws };
+
+    fn encipher_with(
+        expanded: ExpandedKey,
+        tweak: &[u8],
+        message: &mut [u8],
+    ) -> Result<(), Refusal> {
+        hch::encipher_with(expanded, tweak, message)
     }
+
+    fn decipher_with(
+        expanded: ExpandedKey,
+        tweak: &[u8],
+        ciphertext: &mut [u8],
+    ) -> Result<(), Refusal> {
+        hch::decipher_with(expanded, tweak, ciphertext)
+    }
+}
+
+// The encryption-only scheme.
+pub struct Forward;
+
+impl Scheme for Forward {
+    ghost scheme = { forward };
+
+    ghost under = { forward_under };
+
+    ghost least = { 33 };
+
+    ghost short = { ForwardTooShort };
+
+    ghost laws = { forward_laws };
+
+    fn encipher_with(
+        expanded: ExpandedKey,
+        tweak: &[u8],
+        message: &mut [u8],
+    ) -> Result<(), Refusal> {
+        forward::encipher_with(expanded, tweak, message)
+    }
+
+    fn decipher_with(
+        expanded: ExpandedKey,
+        tweak: &[u8],
+        ciphertext: &mut [u8],
+    ) -> Result<(), Refusal> {
+        forward::decipher_with(expanded, tweak, ciphertext)
+    }
+}
+
+// Whether the scheme takes the key.
+pub fn is_key<S: Scheme>(key: &[u8]) -> bool
+    ensures { result ≡ S.scheme.is_key key.now }
+{
+    aes::is_key(key)
+}
+
+// Expands a key for many messages, or refuses what is none. The scheme under the expanded key is the scheme under the key, and a tweakable cipher of each length
+// that it takes.
+pub fn expand<S: Scheme>(key: &[u8]) -> Result<ExpandedKey, Refusal>
+    ensures value { result ≡ cond (S.scheme.is_key key.now) (Ok (expanded_key key.now)) (Err KeyLength) }
+    ensures same { IfOk result (λ expanded. Same (S.under expanded) [] S.scheme key.now) }
+    ensures by_index { IfOk result (λ expanded. (n : ℕ) → S.least ≤ n → TweakableCipher 16 n ((S.under expanded).encipher []) ((S.under expanded).decipher [])) }
+{
+    ExpandedKey::new(key)
+}
+
+// Enciphers the message in place, or refuses and leaves it as it is.
+pub fn encipher<S: Scheme>(key: &[u8], tweak: &[u8], message: &mut [u8]) -> Result<(), Refusal>
+    ensures value { result ≡ looks_at (tests S.scheme S.least S.short key.now tweak.now message.old) }
+    ensures message_after { message.new ≡ left_by (number_of result) (S.scheme.encipher key.now tweak.now message.old) message.old }
+    ensures cipher { IsCipher S.scheme (number_of result) key.now tweak.now (length message.old) }
+{
+    let expanded = expand::<S>(key)?;
+    S::encipher_with(expanded, tweak, message)
+}
+
+// Deciphers the ciphertext in place, or refuses and leaves it as it is.
+pub fn decipher<S: Scheme>(key: &[u8], tweak: &[u8], ciphertext: &mut [u8]) -> Result<(), Refusal>
+    ensures value { result ≡ looks_at (tests S.scheme S.least S.short key.now tweak.now ciphertext.old) }
+    ensures ciphertext_after { ciphertext.new ≡ left_by (number_of result) (S.scheme.decipher key.now tweak.now ciphertext.old) ciphertext.old }
+    ensures cipher { IsCipher S.scheme (number_of result) key.now tweak.now (length ciphertext.old) }
+    ensures one_plaintext { OnePlaintext S.scheme (number_of result) key.now tweak.now ciphertext.old ciphertext.new }
+{
+    let expanded = expand::<S>(key)?;
+    S::decipher_with(expanded, tweak, ciphertext)
 }

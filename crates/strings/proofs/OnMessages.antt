@@ -2,18 +2,16 @@
 -- key.
 -- Assumes nothing.
 use Prim.Native.Nat.{ℕ, ◌≤◌}
-use mathlib.Core.Path.{◌≡◌, refl, sym, ap, ◌∙◌}
-use mathlib.Core.Bool.{true, false}
+use mathlib.Core.Path.{◌≡◌, refl, sym, ap}
 use mathlib.Core.List.{List, []}
 use lib.ListN.{length}
 use borrow.Author.Tests.{ltb-false, eqb-true, eq-eqb, le-ltb}
 use Rattle.strings.specs.Bytes.{Bytes}
 use Rattle.strings.specs.Cipher.{Cipher, Scheme, Same}
-use Rattle.strings.specs.Call.{Answer, number_of, looks_at, left_by}
+use Rattle.strings.specs.Call.{number_of, looks_at, left_by}
 use Rattle.strings.specs.Message.{tests_behind_key, tests, IsCipher, OnePlaintext}
 use Rattle.strings.specs.declared.refusal.Refusal.{Refusal}
-use Rattle.strings.specs.declared.refusal.Refusal.TheVariants.{KeyLength}
-use Rattle.std.specs.Prelude.{Ok, Err}
+use Rattle.std.specs.Prelude.{Ok}
 use Rattle.strings.proofs.One.{one_preimage}
 use Rattle.strings.proofs.Refusals.{none_holds, all_passed, not_false}
 
@@ -40,41 +38,10 @@ module _ (least : ℕ) (short : Refusal) (tweak message : List ℕ) where
   pub admitted : (S : Scheme) (key : List ℕ) → number_of (looks_at (tests S least short key tweak message)) ≡ 0 → Admitted least tweak message
   admitted S key e = admitted_behind_key (ap number_of (all_passed (tests_behind_key least short tweak message) (none_holds (tests S least short key tweak message) e).1))
 
-  -- Where the key is one, the other tests decide; where it is none, it is told.
-  pub behind_key : (S : Scheme) (key : List ℕ) → S.is_key key ≡ true
-      → looks_at (tests_behind_key least short tweak message) ≡ looks_at (tests S least short key tweak message)
-  behind_key S key k = rw k
-
-  pub no_key : (S : Scheme) (key : List ℕ) → S.is_key key ≡ false → Err KeyLength ≡ looks_at (tests S least short key tweak message)
-  no_key S key k = rw k
-
--- ---- where the work was done under an expanded key
-
--- By the tests, the work and the cipher of an admitted length: what the call promises.
-pub done_behind_key : (S : Scheme) (least : ℕ) (short : Refusal) (tweak message work : List ℕ) {answer : Answer} {left : List ℕ}
-    → answer ≡ looks_at (tests_behind_key least short tweak message) → answer ≡ Ok tt → left ≡ work → Cipher (length message) (S.encipher [] tweak) (S.decipher [] tweak)
-    → (answer ≡ looks_at (tests_behind_key least short tweak message))
-    × ((left ≡ left_by (number_of answer) work message) × IsCipher S (number_of answer) [] tweak (length message))
-done_behind_key S least short tweak message work e done l cipher = (e, (rw done l, λ z. cipher))
-
--- ---- a call under a key, from the call under the expanded key
-
-module _ (least : ℕ) (short : Refusal) (S : Scheme) (key tweak message : List ℕ) where
-  module _ {S' : Scheme} (k : S.is_key key ≡ true) (same : Same S' [] S key) {answer : Answer}
-      (e : answer ≡ looks_at (tests_behind_key least short tweak message)) (cipher : IsCipher S' (number_of answer) [] tweak (length message)) where
-    cipher_under_key : IsCipher S (number_of answer) key tweak (length message)
-    cipher_under_key = rw (sym same.enciphers, sym same.deciphers) cipher
-
-    pub enciphered_under_key : {left : List ℕ} → left ≡ left_by (number_of answer) (S'.encipher [] tweak message) message
-        → (answer ≡ looks_at (tests S least short key tweak message))
-        × ((left ≡ left_by (number_of answer) (S.encipher key tweak message) message) × IsCipher S (number_of answer) key tweak (length message))
-    enciphered_under_key l = (e ∙ behind_key least short tweak message S key k, (rw (sym same.enciphers) l, cipher_under_key))
-
-    -- What deciphering leaves is the one message that enciphers to what was lent.
-    pub deciphered_under_key : {left : List ℕ} → Bytes message → left ≡ left_by (number_of answer) (S'.decipher [] tweak message) message
-        → (answer ≡ looks_at (tests S least short key tweak message))
-        × ((left ≡ left_by (number_of answer) (S.decipher key tweak message) message)
-        × (IsCipher S (number_of answer) key tweak (length message) × OnePlaintext S (number_of answer) key tweak message left))
-    deciphered_under_key {left} b l =
-        let work : left ≡ left_by (number_of answer) (S.decipher key tweak message) message = rw (sym same.deciphers) l in
-        (e ∙ behind_key least short tweak message S key k, (work, (cipher_under_key, λ z. rw (work, z) (one_preimage (cipher_under_key z) message (refl, b)))))
+-- What deciphering leaves, under what was made of a key, is the one message that enciphers under the key to what was lent.
+pub one_plaintext : (S : Scheme) (key tweak C : List ℕ) {S' : Scheme} {number : ℕ} {P : List ℕ} → Same S' [] S key → IsCipher S' number [] tweak (length C)
+    → P ≡ left_by number (S'.decipher [] tweak C) C → Bytes C → OnePlaintext S number key tweak C P
+one_plaintext S key tweak C {number = number} {P = P} same cipher left bytes done =
+    let under_key : Cipher (length C) (S.encipher key tweak) (S.decipher key tweak) = rw (sym same.enciphers, sym same.deciphers) (cipher done) in
+    let deciphered : P ≡ S.decipher key tweak C = rw (done, same.deciphers) at left in
+    rw deciphered (one_preimage under_key C (refl, bytes))

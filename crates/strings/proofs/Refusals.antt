@@ -1,7 +1,7 @@
 -- Laws of tests and their refusals: what the number of an answer tells of the tests, and what a refusal leaves.
 -- Assumes nothing.
 use Prim.Native.Nat.{ℕ, zero, suc, ◌≤◌, ◌<◌}
-use mathlib.Core.Path.{◌≡◌, refl, sym, ap}
+use mathlib.Core.Path.{◌≡◌, refl, sym, ap, ◌∙◌}
 use mathlib.Core.Bool.{Bool, true, false, not, ◌||◌}
 use mathlib.Core.List.{List, [], ◌∷◌}
 use mathlib.Core.Logic.{◌⊎◌, inl, inr}
@@ -9,8 +9,8 @@ use native.Mathlib.Omega.{arith}
 use lib.ListN.{take}
 use Rattle.strings.specs.declared.refusal.Refusal.{Refusal}
 use Rattle.strings.specs.declared.refusal.Refusal.TheVariants.{KeyLength, TweakLength, TooShort, TooLong, PayloadTooLong, PlaceTooHigh, BlockLength, CheckFailed, PackLength, ListLength, Blank, ForwardTooShort}
-use Rattle.std.specs.Prelude.{Result, Ok, Err}
-use Rattle.strings.specs.Call.{refusal_number, number_of, Tests, looks_at, left_by}
+use Rattle.std.specs.Prelude.{cond, ⊤, Result, Ok, Err}
+use Rattle.strings.specs.Call.{Answer, refusal_number, number_of, Tests, looks_at, left_by}
 
 -- A refusal's number is not that of a call that was done, nor 9, which is the program's; and 13 is the highest.
 pub refusal_range : (why : Refusal) → (0 < refusal_number why) × (refusal_number why ≤ 13) × (refusal_number why ≡ 9 → ⊥)
@@ -57,6 +57,11 @@ refused_early zero tests why e = absurd (refusal_some why (sym (ap number_of e))
 refused_early (suc n) [] why e = e
 refused_early (suc n) ((true, first) ∷ tests) why e = e
 refused_early (suc n) ((false, first) ∷ tests) why e = refused_early n tests why e
+
+-- A test that was passed does not hold.
+pub passed : (holds : Bool) (why : Refusal) {r : Answer} {a : ⊤} → r ≡ cond holds (Err why) (Ok tt) → r ≡ Ok a → holds ≡ false
+passed true why e ok = absurd (refusal_some why (ap number_of (sym e ∙ ok)))
+passed false why e ok = refl
 
 pub not_false : (t : Bool) → not t ≡ false → t ≡ true
 not_false true e = refl

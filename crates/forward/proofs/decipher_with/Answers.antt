@@ -1,31 +1,28 @@
--- Under a key that was expanded before: the tests behind the key, and the message deciphered or left.
-use mathlib.Core.Path.{sym, ap, ◌∙◌}
-use native.Mathlib.Omega.{arith}
-use lib.ListN.{length}
+-- The tests that were passed admit the message, and the work is that of its table.
+use Rattle.std.proofs.Common.{sym, ap, ◌∙◌, length, refl, arith}
 use Rattle.strings.specs.Call.{number_of}
 use Rattle.strings.specs.declared.refusal.Refusal.TheVariants.{ForwardTooShort}
-use Rattle.strings.proofs.OnMessages.{admitted_behind_key, done_behind_key}
+use Rattle.strings.proofs.OnMessages.{admitted_behind_key}
 use Rattle.blocks.proofs.Blocks.{block_whole}
 use Rattle.forward.specs.Forward.{deciphered_by}
-use Rattle.forward.specs.Expanded.{forward_under}
 use Rattle.forward.proofs.Theorems.{under-cipher}
 use Rattle.forward.proofs.decipher_with.Goals as goal
 
 pub decipher_message-requires : goal.decipher_message-requires
 decipher_message-requires c =
     let args = c.args in
-    -- what the tests tell where the work is to be done
-    let a = admitted_behind_key 33 ForwardTooShort args.tweak.now args.ciphertext.now (ap number_of (sym c.judge-answer.ensures ∙ c.in-Done.is)) in
+    let a = admitted_behind_key 33 ForwardTooShort args.tweak.now args.ciphertext.now (ap number_of (sym c.judge.ensures ∙ c.in_ok-judge.was)) in
     (omega (arith, a.at_least), a.at_most)
 
-pub returns-in-Done : goal.returns-in-Done
+pub returns-clause-ciphertext_after : goal.returns-clause-ciphertext_after
 unfolding deciphered_by
-returns-in-Done c =
+returns-clause-ciphertext_after c =
     let args = c.args in
-    let tweak = args.tweak.now in
-    let message = args.ciphertext.now in
-    let a = admitted_behind_key 33 ForwardTooShort tweak message (ap number_of (sym c.judge-answer.ensures ∙ c.in-Done.is)) in
-    let done = done_behind_key (forward_under args.expanded) 33 ForwardTooShort tweak message _ c.judge-answer.ensures c.in-Done.is
-    (rw (c.decipher_message.ensures, c.read.ensures, block_whole tweak a.tweak-length))
-    (under-cipher args.expanded (length message) a.at_least tweak (a.tweak-length, λ i. (c.type_inv.tweak i).fits)) in
-    record { value = done.0; ciphertext_after = done.1.0; cipher = done.1.1 }
+    let a = admitted_behind_key 33 ForwardTooShort args.tweak.now args.ciphertext.now (ap number_of (sym c.judge.ensures ∙ c.in_ok-judge.was)) in
+    rw (c.decipher_message.ensures, c.read.ensures, block_whole args.tweak.now a.tweak-length) refl
+
+pub returns-clause-cipher : goal.returns-clause-cipher
+returns-clause-cipher c =
+    let args = c.args in
+    let a = admitted_behind_key 33 ForwardTooShort args.tweak.now args.ciphertext.now (ap number_of (sym c.judge.ensures ∙ c.in_ok-judge.was)) in
+    λ done. under-cipher args.expanded (length args.ciphertext.now) a.at_least args.tweak.now (a.tweak-length, λ i. (c.type_inv.tweak i).fits)
