@@ -6,15 +6,14 @@ use mathlib.Core.Bool.{Bool, true, false, cond, ◌&&◌, and-eq-true_iff}
 use mathlib.Core.List.{List, [], ◌∷◌, ◌++◌}
 use Prim.Native.Nat.{ℕ, zero, suc, ◌+◌, ◌-◌, ◌*◌, ◌/◌, ◌%◌, ◌≤◌, ◌<◌}
 use native.Mathlib.Nat.{not-suc-le-zero, le_of_suc-le-suc}
-use native.Mathlib.Numerals.{add-one}
 use native.Mathlib.Omega.{arith}
 use lib.ListN.{length, take, drop, get_or, set}
-use lib.Seq.{drop-cons, take_at}
+use lib.Seq.{take_at}
 use lib.Dec.{leb, ltb, eqb}
 use borrow.Author.Tests.{le-leb, lt-leb, lt-ltb, le-ltb, leb-true, ltb-true, ltb-false, eq-eqb, ne_eqb, eqb-true}
 use Rattle.strings.proofs.Refusals.{either}
-use Rattle.text.specs.declared.hex.Decoded.{Decoded}
-use Rattle.text.specs.declared.hex.Decoded.TheVariants.{Bytes, Refused}
+use Rattle.std.specs.Prelude.{Option, Some, None}
+use Rattle.std.specs.List.{list_all}
 use Rattle.text.specs.Hex.{digit, is_digit, value, hex, all_digits, is_hex, unhex}
 use Rattle.text.specs.Part.{split}
 use Rattle.text.specs.Inner.{before, decoded_of, field_of}
@@ -66,17 +65,18 @@ digit_is n h =
 
 -- ---- all digits, and an even number of them
 
+-- that is std's word
+pub all_digits_is : (s : List ℕ) → all_digits s ≡ list_all is_digit s
+unfolding all_digits
+all_digits_is [] = refl
+all_digits_is (c ∷ s) = rw (all_digits_is s) refl
+
 -- each character of such a text is a digit
 pub digit_at : (s : List ℕ) (i : ℕ) → all_digits s ≡ true → i < length s → is_digit (get_or s i 0) ≡ true
 unfolding all_digits
 digit_at [] i e h = absurd (not-suc-le-zero h)
 digit_at (c ∷ s) zero e h = ((and-eq-true_iff (is_digit c) (all_digits s)).0 e).0
 digit_at (c ∷ s) (suc i) e h = digit_at s i ((and-eq-true_iff (is_digit c) (all_digits s)).0 e).1 (le_of_suc-le-suc h)
-
--- from i on: the digit at i, and those after it
-pub digits_from : (s : List ℕ) (i : ℕ) → i < length s → all_digits (drop i s) ≡ (is_digit (get_or s i 0) && all_digits (drop (i + 1) s))
-unfolding all_digits
-digits_from s i h = rw (drop-cons s i 0 h, add-one i) refl
 
 -- the two parts of the test
 pub even_digits : (s : List ℕ) → is_hex s ≡ true → (length s % 2 ≡ 0) × (all_digits s ≡ true)
@@ -185,12 +185,12 @@ length-unhex (c ∷ d ∷ s) = omega (arith, length-unhex s)
 pub decoded_whole : (s out : List ℕ) → take (length s / 2) (unhex s ++ drop (length s / 2) out) ≡ unhex s
 decoded_whole s out = take_at (unhex s) (drop (length s / 2) out) (length s / 2) (length-unhex s)
 
-taken : (t : Bool) (k n : ℕ) → cond t (Bytes k) Refused ≡ Bytes n → (t ≡ true) × (n ≡ k)
+taken : (t : Bool) (k n : ℕ) → cond t (Some k) None ≡ Some n → (t ≡ true) × (n ≡ k)
 taken true k n e = (refl, cc)
 taken false k n e = let z : ◌≡◌ {A = ℕ} 0 1 = cc in absurd (omega arith)
 
 -- the text is hexadecimal, and its bytes have room
-pub decoded_is : (s out : List ℕ) (n : ℕ) → decoded_of s out ≡ Bytes n → (is_hex s ≡ true) × (n ≡ length s / 2) × (n ≤ length out)
+pub decoded_is : (s out : List ℕ) (n : ℕ) → decoded_of s out ≡ Some n → (is_hex s ≡ true) × (n ≡ length s / 2) × (n ≤ length out)
 unfolding decoded_of
 decoded_is s out n e =
     let t = taken (is_hex s && leb (length s / 2) (length out)) (length s / 2) n e in
@@ -198,21 +198,21 @@ decoded_is s out n e =
     let room = leb-true (length s / 2) (length out) h.1 in
     (h.0, t.1, omega arith)
 
-refused : (t : Bool) (k : ℕ) → cond (t && true) (Bytes k) Refused ≡ Refused → t ≡ false
+refused : (t : Bool) (k : ℕ) → cond (t && true) (Some k) None ≡ None → t ≡ false
 refused true k e = let z : ◌≡◌ {A = ℕ} 0 1 = cc in absurd (omega arith)
 refused false k e = refl
 
 -- the text is not hexadecimal, where its bytes would have room
-pub decoded_not : (s out : List ℕ) → decoded_of s out ≡ Refused → length s / 2 ≤ length out → is_hex s ≡ false
+pub decoded_not : (s out : List ℕ) → decoded_of s out ≡ None → length s / 2 ≤ length out → is_hex s ≡ false
 unfolding decoded_of
 decoded_not s out e h = refused (is_hex s) (length s / 2) (rw (le-leb (length s / 2) (length out) h) at e)
 
-ended : (t : Bool) (d : Decoded) (n : ℕ) → cond t d Refused ≡ Bytes n → (t ≡ true) × (d ≡ Bytes n)
+ended : (t : Bool) (d : Option ℕ) (n : ℕ) → cond t d None ≡ Some n → (t ≡ true) × (d ≡ Some n)
 ended true d n e = (refl, e)
 ended false d n e = let z : ◌≡◌ {A = ℕ} 0 1 = cc in absurd (omega arith)
 
 -- the field is hexadecimal, has an end, and its bytes have room
-pub field_is : (b : ℕ) (s out : List ℕ) (n : ℕ) → field_of b s out ≡ Bytes n
+pub field_is : (b : ℕ) (s out : List ℕ) (n : ℕ) → field_of b s out ≡ Some n
     → (is_hex (before b s) ≡ true) × (length (before b s) ≡ 2 * n) × (2 * n < length s) × (n ≤ length out)
 unfolding field_of
 field_is b s out n e =
@@ -222,12 +222,12 @@ field_is b s out n e =
     let even = (even_digits (before b s) d.0).0 in
     (d.0, omega arith, omega arith, d.2)
 
-not_ended : (t : Bool) (d : Decoded) → cond t d Refused ≡ Refused → (t ≡ false) ⊎ (d ≡ Refused)
+not_ended : (t : Bool) (d : Option ℕ) → cond t d None ≡ None → (t ≡ false) ⊎ (d ≡ None)
 not_ended true d e = inr e
 not_ended false d e = inl refl
 
 -- there is no end, or what stands in front of it is not hexadecimal
-pub field_not : (b : ℕ) (s out : List ℕ) → field_of b s out ≡ Refused → length s / 2 ≤ length out → (length s ≤ length (before b s)) ⊎ (is_hex (before b s) ≡ false)
+pub field_not : (b : ℕ) (s out : List ℕ) → field_of b s out ≡ None → length s / 2 ≤ length out → (length s ≤ length (before b s)) ⊎ (is_hex (before b s) ≡ false)
 unfolding field_of
 field_not b s out e h =
     let shorter = before_le b s in

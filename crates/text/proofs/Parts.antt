@@ -6,19 +6,17 @@ use Prim.Native.Nat.{ℕ, suc, ◌+◌, ◌≤◌, ◌<◌, zero-le, suc-le-suc}
 use native.Mathlib.Nat.{not-suc-le-zero, le_of_suc-le-suc, le_of_lt, add_assoc}
 use native.Mathlib.Numerals.{add-one}
 use native.Mathlib.Omega.{arith}
-use lib.ListN.{length, get_or, take, drop, length-append}
+use lib.ListN.{length, take, drop, length-append}
 use lib.Seq.{take-append-add}
-use lib.Dec.{eqb, leb}
-use borrow.Author.Tests.{eq-eqb, ne_eqb, eqb-true, lt-leb, leb-false}
+use lib.Dec.{eqb, leb, ltb}
+use borrow.Author.Tests.{eq-eqb, eqb-true, lt-leb, leb-false, ltb-true, ltb-false}
 use Rattle.std.specs.List.{position_or_len}
 use Rattle.std.proofs.lemmas.List.Recursion.{is_position_or_len}
-use Rattle.std.proofs.lemmas.List.Sums.{position_or_len_is}
 use Rattle.strings.specs.Inner.{overwrite}
 use Rattle.strings.proofs.Place.{length-overwrite, overwrite_past, overwrite-append}
 use Rattle.text.specs.Part.{split_from}
 use Rattle.text.specs.Inner.{before, line_with, kept_with}
-use Rattle.text.specs.declared.part.Kept.{Kept}
-use Rattle.text.specs.declared.part.Kept.TheVariants.{Characters, TooLong}
+use Rattle.std.specs.Prelude.{Option, Some, None, position}
 
 -- its length is the place of the first b, or the length of the list
 length_before : (b : ℕ) (xs : List ℕ) → length (before b xs) ≡ position_or_len (λ x. eqb x b) xs
@@ -29,13 +27,20 @@ length_before b xs = is_position_or_len (λ l. length (before b l)) (λ x. eqb x
     by true x l = refl
     by false x l = omega arith
 
--- which is i, where no place in front of i has b
-pub before_place : (b : ℕ) (xs : List ℕ) (i : ℕ) → i ≤ length xs → ((k : ℕ) → k < i → get_or xs k 0 ≡ b → ⊥) → (i < length xs → get_or xs i 0 ≡ b)
-    → i ≡ length (before b xs)
-before_place b xs i h none here =
-    sym
-    (length_before b xs
-    ∙ position_or_len_is (λ x. eqb x b) xs i 0 h (λ k l. ne_eqb (get_or xs k 0) b (none k l)) (λ l. eq-eqb (get_or xs i 0) b (here l)))
+-- so it is the place that `position` finds, and where there is none it is that of the list
+found_at : (t : Bool) (k m n : ℕ) → ltb k m ≡ t → cond t (Some k) None ≡ Some n → (n ≡ k) × (k < m)
+found_at true k m n e h = (cc, ltb-true k m e)
+found_at false k m n e h = let z : ◌≡◌ {A = ℕ} 0 1 = cc in absurd (omega arith)
+
+pub place_found : (b : ℕ) (xs : List ℕ) (n : ℕ) → position (λ x. eqb x b) xs ≡ Some n → (n ≡ length (before b xs)) × (length (before b xs) < length xs)
+place_found b xs n h = found_at (ltb (length (before b xs)) (length xs)) _ (length xs) n refl (rw (← length_before b xs) at h)
+
+none_at : (t : Bool) (k m : ℕ) → ltb k m ≡ t → cond t (Some k) None ≡ None → m ≤ k
+none_at true k m e h = let z : ◌≡◌ {A = ℕ} 0 1 = cc in absurd (omega arith)
+none_at false k m e h = ltb-false k m e
+
+pub place_none : (b : ℕ) (xs : List ℕ) → position (λ x. eqb x b) xs ≡ None → length xs ≤ length (before b xs)
+place_none b xs h = none_at (ltb (length (before b xs)) (length xs)) _ (length xs) refl (rw (← length_before b xs) at h)
 
 shorter : (t : Bool) (x : ℕ) (xs ys : List ℕ) → length ys ≤ length xs → length (cond t [] (x ∷ ys)) ≤ suc (length xs)
 shorter true x xs ys h = zero-le
@@ -115,7 +120,7 @@ split_first b u xs h =
 
 -- what is kept, by the test whether there is room, its value t
 bytes_test : (t : Bool) (line : List ℕ) (n : ℕ) (a b : List ℕ) → leb (n + length a) (length line) ≡ t
-    → line_with (overwrite n a line) (cond t (Characters (n + length a)) TooLong) b ≡ overwrite n (a ++ b) line
+    → line_with (overwrite n a line) (cond t (Some (n + length a)) None) b ≡ overwrite n (a ++ b) line
 unfolding line_with
 bytes_test true line n a b e = sym (overwrite-append n a b line)
 bytes_test false line n a b e =
@@ -123,14 +128,14 @@ bytes_test false line n a b e =
     rw (overwrite-append n a b line) (sym (overwrite_past (n + length a) b (overwrite n a line) past))
 
 -- the bytes of a line that goes on with two parts, one after the other, are those of one that goes on with both
-pub bytes_twice : (line : List ℕ) (kept : Kept) (a b : List ℕ)
+pub bytes_twice : (line : List ℕ) (kept : Option ℕ) (a b : List ℕ)
     → line_with (line_with line kept a) (kept_with line kept a) b ≡ line_with line kept (a ++ b)
 unfolding line_with kept_with
-bytes_twice line (Characters n) a b = bytes_test (leb (n + length a) (length line)) line n a b refl
-bytes_twice line TooLong a b = refl
+bytes_twice line (Some n) a b = bytes_test (leb (n + length a) (length line)) line n a b refl
+bytes_twice line None a b = refl
 
 kept_test : (t : Bool) (line line' : List ℕ) (n : ℕ) (a b : List ℕ) → length line' ≡ length line → leb (n + length a) (length line) ≡ t
-    → kept_with line' (cond t (Characters (n + length a)) TooLong) b ≡ kept_with line (Characters n) (a ++ b)
+    → kept_with line' (cond t (Some (n + length a)) None) b ≡ kept_with line (Some n) (a ++ b)
 unfolding kept_with
 kept_test true line line' n a b same e = rw (same, length-append a b, add_assoc n (length a) (length b)) refl
 kept_test false line line' n a b same e =
@@ -138,9 +143,9 @@ kept_test false line line' n a b same e =
     rw (lt-leb (n + length (a ++ b)) (length line) long) refl
 
 -- and so is what is kept of it
-pub kept_twice : (line : List ℕ) (kept : Kept) (a b : List ℕ)
+pub kept_twice : (line : List ℕ) (kept : Option ℕ) (a b : List ℕ)
     → kept_with (line_with line kept a) (kept_with line kept a) b ≡ kept_with line kept (a ++ b)
 unfolding line_with kept_with
-kept_twice line (Characters n) a b =
+kept_twice line (Some n) a b =
     kept_test (leb (n + length a) (length line)) line (overwrite n a line) n a b (length-overwrite n a line) refl
-kept_twice line TooLong a b = refl
+kept_twice line None a b = refl

@@ -3,13 +3,6 @@ ghost use Rattle.std.specs.Prelude.{◌≡◌, true, ◌+◌, ◌*◌, ◌<◌, 
 ghost use Rattle.text.specs.Hex.{digit, is_digit, value, is_hex};
 ghost use Rattle.text.specs.Inner.{before, fitting, encoded_in, decoded_of, field_of, decoded_in};
 
-// What `decode` answers: how many bytes it wrote, or that it wrote none.
-#[derive(Clone, Copy)]
-pub enum Decoded {
-    Bytes(usize),
-    Refused,
-}
-
 // Writes the digits of as many whole bytes as `out` has room for to its front, leaves the rest of
 // `out`, and returns the number of characters written.
 pub fn encode(bytes: &[u8], out: &mut [u8]) -> usize
@@ -17,13 +10,11 @@ pub fn encode(bytes: &[u8], out: &mut [u8]) -> usize
     ensures out_after { out.new ≡ encoded_in bytes.now out.old }
 {
     let n = strings::places::least(bytes.len(), out.len() / 2);
-    let mut i = 0;
-    while i < n {
+    for i in 0..n {
         let b = bytes[i];
         let k = 2 * i;
         out[k] = digit_of(b / 16);
         out[k + 1] = digit_of(b % 16);
-        i += 1;
     }
     2 * n
 }
@@ -32,63 +23,33 @@ pub fn encode(bytes: &[u8], out: &mut [u8]) -> usize
 pub fn is_hex(text: &[u8]) -> bool
     ensures { result ≡ is_hex text.now }
 {
-    if text.len() % 2 != 0 {
-        return false;
-    }
-    let mut i = 0;
-    while i < text.len() {
-        if !is_digit(text[i]) {
-            return false;
-        }
-        i += 1;
-    }
-    true
+    text.len() % 2 == 0 && text.iter().all(|c| is_digit(*c))
 }
 
-// Writes the bytes that `text` stands for to the front of `out`. Text that is not hexadecimal, or
-// stands for more bytes than `out` has, is refused, and `out` is as it was.
-pub fn decode(text: &[u8], out: &mut [u8]) -> Decoded
+// Writes the bytes that `text` stands for to the front of `out`, and answers how many they are. Text
+// that is not hexadecimal, or stands for more bytes than `out` has, has none, and `out` is as it was.
+pub fn decode(text: &[u8], out: &mut [u8]) -> Option<usize>
     ensures value { result ≡ decoded_of text.now out.old }
     ensures out_after { out.new ≡ decoded_in result text.now out.old }
 {
     let n = text.len() / 2;
-    if out.len() < n {
-        return Decoded::Refused;
+    if out.len() < n || !is_hex(text) {
+        return None;
     }
-    if !is_hex(text) {
-        return Decoded::Refused;
-    }
-    let mut i = 0;
-    while i < n {
+    for i in 0..n {
         out[i] = byte_at(text, 2 * i);
-        i += 1;
     }
-    Decoded::Bytes(n)
+    Some(n)
 }
 
 // Decodes the field at the front of `text`, which ends at the first `end`, as `decode` does. Where
-// it answers n bytes, what follows the field begins at 2 * n + 1. Text with no `end` is refused.
-pub fn decode_field(text: &[u8], end: u8, out: &mut [u8]) -> Decoded
+// it answers n bytes, what follows the field begins at 2 * n + 1. Text with no `end` has no field.
+pub fn decode_field(text: &[u8], end: u8, out: &mut [u8]) -> Option<usize>
     ensures value { result ≡ field_of end text.now out.old }
     ensures out_after { out.new ≡ decoded_in result (before end text.now) out.old }
 {
-    let n = place_of(end, text);
-    if n >= text.len() {
-        return Decoded::Refused;
-    }
-    decode(&text[0..n], out)
-}
-
-// The place of the first byte b, or the length of `s` where there is none.
-fn place_of(b: u8, s: &[u8]) -> usize
-    ensures { result ≡ length (before b s.now) }
-{
-    for (i, x) in s.iter().enumerate() {
-        if *x == b {
-            return i;
-        }
-    }
-    s.len()
+    let n = text.iter().position(|x| *x == end)?;
+    decode(&text[..n], out)
 }
 
 // The byte whose two digits stand from place k on.
@@ -104,6 +65,7 @@ fn byte_at(text: &[u8], k: usize) -> u8
 }
 
 // The digit of a number below 16.
+#[tactic(auto, unfolding(crate::specs::Hex::digit))]
 fn digit_of(n: u8) -> u8
     requires { n < 16 }
     ensures { result ≡ digit n }
@@ -112,17 +74,15 @@ fn digit_of(n: u8) -> u8
 }
 
 // Whether a character is a lower-case digit.
+#[tactic(auto, unfolding(crate::specs::Hex::is_digit))]
 fn is_digit(c: u8) -> bool
     ensures { result ≡ is_digit c }
 {
-    if c < b'a' {
-        b'0' <= c && c <= b'9'
-    } else {
-        c <= b'f'
-    }
+    matches!(c, b'0'..=b'9' | b'a'..=b'f')
 }
 
 // The number that a digit stands for.
+#[tactic(auto, using(crate::proofs::Digits::cases, crate::proofs::Digits::value_lt), unfolding(crate::specs::Hex::value))]
 fn value_of(c: u8) -> u8
     requires { is_digit c ≡ true }
     ensures value { result ≡ value c }

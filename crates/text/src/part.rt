@@ -1,31 +1,66 @@
 // A line collected from chunks. A reader finds the line feed in a chunk, appends the part in front
 // of it to the line so far, and goes on with the next chunk.
-ghost use Rattle.std.specs.Prelude.{◌≡◌};
-ghost use Rattle.text.specs.Inner.{line_with, kept_with};
+ghost use Rattle.std.specs.Prelude.{◌≡◌, Some, replicate, option_map};
+ghost use Rattle.text.specs.Inner.{line_with, kept_with, line_of, is_empty};
 
-// What a buffer keeps of a line: all the characters that the line has so far, this many, at its
-// front; or that the line is too long for it.
+// The line under way: its characters stand at the front of `chars`, and `kept` says how many they
+// are, or `None` where the line is too long for `chars`, as it then stays.
 #[derive(Clone, Copy)]
-pub enum Kept {
-    Characters(usize),
-    TooLong,
+pub struct LineBuffer<const N: usize> {
+    pub chars: [u8; N],
+    pub kept: Option<usize>,
 }
 
-// The line that is kept in `line` goes on with `more`. What has no room is dropped: the line is then
-// too long, and stays so.
-pub fn append(line: &mut [u8], kept: Kept, more: &[u8]) -> Kept
+impl<const N: usize> LineBuffer<N> {
+    // An empty line.
+    pub fn new() -> Self
+        ensures kept_value { result.kept ≡ Some 0 }
+    {
+        LineBuffer {
+            chars: [0; N],
+            kept: Some(0),
+        }
+    }
+
+    // The line goes on with `more`.
+    pub fn append(&mut self, more: &[u8])
+        ensures chars_after { self.new.chars ≡ line_with self.old.chars self.old.kept more.now }
+        ensures kept_after { self.new.kept ≡ kept_with self.old.chars self.old.kept more.now }
+    {
+        self.kept = append(&mut self.chars, self.kept, more);
+    }
+
+    // The line so far, if it is not too long.
+    pub fn line(&self) -> Option<&[u8]>
+        ensures { option_map (λ s. s.now) result ≡ line_of self.now.chars self.now.kept }
+    {
+        self.chars.get(..self.kept?)
+    }
+
+    // Whether the line has no character yet.
+    pub fn is_empty(&self) -> bool
+        ensures { result ≡ is_empty self.now.kept }
+    {
+        self.kept == Some(0)
+    }
+
+    // Begins a new line.
+    pub fn clear(&mut self)
+        ensures chars_kept { self.new.chars ≡ self.old.chars }
+        ensures none_kept { self.new.kept ≡ Some 0 }
+    {
+        self.kept = Some(0);
+    }
+}
+
+// A line goes on with `more`, in the first `kept` characters of a slice of any length, as that of a
+// `LineBuffer` does. What has no room is dropped.
+pub fn append(line: &mut [u8], kept: Option<usize>, more: &[u8]) -> Option<usize>
     ensures value { result ≡ kept_with line.old kept more.now }
     ensures line_after { line.new ≡ line_with line.old kept more.now }
 {
-    let Kept::Characters(n) = kept else {
-        return kept;
-    };
+    let n = kept?;
     strings::places::write(line, n, more);
-    if n > line.len() {
-        return Kept::TooLong;
-    }
-    if more.len() <= line.len() - n {
-        return Kept::Characters(n + more.len());
-    }
-    Kept::TooLong
+    let end = n.checked_add(more.len())?;
+    (end <= line.len()).then_some(end)
 }

@@ -1,37 +1,19 @@
--- Where a character is no digit, and where the loop has come to the end.
-use mathlib.Core.Path.{◌≡◌, sym, ◌∙◌}
-use mathlib.Core.Bool.{true, false}
-use Prim.Native.Nat.{◌%◌}
-use native.Mathlib.Omega.{arith}
-use lib.ListN.{length, get_or, drop_of_length-le}
-use borrow.Author.Tests.{eq-eqb, ne_eqb}
-use Rattle.text.specs.Hex.{is_digit, all_digits, is_hex}
-use Rattle.text.proofs.Digits.{digits_from}
+-- Where the length is even the characters decide.
+use Rattle.std.proofs.Common.{rules, ◌%◌, length}
+use borrow.Author.Tests.{eq-eqb, ne_eqb, tests}
+use Rattle.std.proofs.lemmas.Iterator.{YieldsList-from_slice}
+use Rattle.std.proofs.lemmas.Iterator.Search.{all_from_yields_List}
+use Rattle.text.specs.Hex.{is_digit, is_hex}
+use Rattle.text.proofs.Digits.{all_digits_is}
 use Rattle.text.proofs.hex.is_hex.Goals as goal
 
-pub returns-then-text-ne0 : goal.returns-then-text-ne0
+pub returns-then-text-eq0 : goal.returns-then-text-eq0
 unfolding is_hex
-returns-then-text-ne0 c = simp (ne_eqb (length c.args.text.now % 2) 0 (λ e. omega arith))
-
-pub returns-then-not-is_digit : goal.returns-then-not-is_digit
-unfolding is_hex
-returns-then-not-is_digit c =
-    let at-loop = c in
-    let s = at-loop.args.text.now in
-    let i = at-loop.loop-i.i in
-    let no : is_digit (get_or s i 0) ≡ false = sym c.is_digit.ensures ∙ c.if-not-is_digit.true in
-    simp (eq-eqb _ _ at-loop.loop-i.invariant.0, at-loop.loop-i.invariant.1, digits_from s i c.loop-i-test.true, no)
-
-pub loop-i-preserved : goal.loop-i-preserved
-loop-i-preserved c =
-    let at-loop = c in
-    let s = at-loop.args.text.now in
-    let i = at-loop.loop-i.i in
-    let yes : is_digit (get_or s i 0) ≡ true = sym c.is_digit.ensures ∙ c.if-not-is_digit.false in
-    (at-loop.loop-i.invariant.0, simp (at-loop.loop-i.invariant.1, digits_from s i c.loop-i-test.true, yes))
-
-pub returns : goal.returns
-unfolding is_hex all_digits
-returns c =
+returns-then-text-eq0 c =
     let s = c.args.text.now in
-    simp (eq-eqb _ _ c.loop-i.invariant.0, c.loop-i.invariant.1, drop_of_length-le s c.loop-i-test.false)
+    let all = all_from_yields_List is_digit _ _ c.all.result c.all.ensures.ran (YieldsList-from_slice s cc) (λ x b q k. search (rules, tests)) in
+    rw (eq-eqb (length s % 2) 0 c.if-text-eq0.true, all_digits_is s) all
+
+pub returns-else-text-eq0 : goal.returns-else-text-eq0
+unfolding is_hex
+returns-else-text-eq0 c = rw (ne_eqb (length c.args.text.now % 2) 0 c.if-text-eq0.false) cc
