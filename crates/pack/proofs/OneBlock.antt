@@ -8,33 +8,30 @@ use mathlib.Core.Logic.{inl, inr, ⊎_elim}
 use native.Mathlib.Omega.{arith}
 use borrow.Author.Tests.{eqb-true, ltb-false, eq-eqb, le-ltb}
 use lib.Dec.{eqb}
-use lib.ListN.{length, get_or, take, drop}
+use lib.ListN.{length, get_or, take}
 use lib.Seq.{length-take-le}
 use Rattle.strings.specs.Bytes.{Bytes, OfLength, equal}
-use Rattle.strings.specs.Call.{number_of as number_of_tests, looks_at, left_by}
+use Rattle.strings.specs.Call.{Answer, number_of, looks_at, left_by}
 use Rattle.strings.specs.Cipher.{Scheme}
-use Rattle.strings.specs.declared.refusal.Answer.{Answer}
-use Rattle.strings.specs.declared.refusal.Answer.TheVariants.{Done as NoTestHolds, Refused as FirstIs}
+use Rattle.std.specs.Prelude.{Ok, Err}
 use Rattle.strings.specs.declared.refusal.Refusal.{Refusal}
 use Rattle.strings.specs.declared.refusal.Refusal.TheVariants.{KeyLength}
 use Rattle.strings.proofs.Bytes.{below_take}
 use Rattle.strings.proofs.Equal.{both, equal_refl, equal_true}
 use Rattle.strings.proofs.One.{one_string}
-use Rattle.strings.proofs.Refusals.{none_holds, all_passed, refused_early, not_false, refusal_leaves, refused_some}
+use Rattle.strings.proofs.Refusals.{none_holds, refused_early, not_false, refusal_leaves, refused_some}
 use Rattle.layout.specs.Layout.{plain_block, tweak, used, payload_of, passes, is_zero}
 use Rattle.layout.proofs.Check.{plain_of_length, used_plain, take_plain, passes_plain, passes_only, zero_only, zero_told}
 use Rattle.pack.specs.Sealing.{seal, WithinLimits, tests as tests_of_sealing, answer_of as answer_of_sealing}
-use Rattle.pack.specs.Opening.{number_of, values_of, returning, failure, deciphered_block, tests, answer_of, opens_to, OneBlock, NoPayload, Unopened, UnopenedMeaning, Meaning}
+use Rattle.pack.specs.Opening.{Opened, values_of, returning, failure, deciphered_block, tests_between, tests, answer_of, opens_to, OneBlock, NoPayload, Unopened, UnopenedMeaning, Meaning}
 use Rattle.pack.specs.Inner.{CipherAt, Opens}
-use Rattle.pack.specs.declared.opening.Opened.{Opened}
-use Rattle.pack.specs.declared.opening.Opened.TheVariants.{Done, Refused}
 
 -- ---- what an answer tells of the tests
 
 -- The number is that of the tests.
-number_returned : (u : ℕ) (a : Answer) → number_of (returning u a) ≡ number_of_tests a
-number_returned u NoTestHolds = refl
-number_returned u (FirstIs why) = refl
+number_returned : (u : ℕ) (a : Answer) → number_of (returning u a) ≡ number_of a
+number_returned u (Ok a) = refl
+number_returned u (Err why) = refl
 
 -- Of sealing: what is known of a call that was done.
 pub record Sealable (S : Scheme) (key payload : List ℕ) (place : ℕ) (block : List ℕ) : Type 0 where
@@ -43,9 +40,8 @@ pub record Sealable (S : Scheme) (key payload : List ℕ) (place : ℕ) (block :
   pub payload_length : length payload ≤ 496
   pub place_limit : place ≤ 65535
 
-pub sealable : (S : Scheme) (key payload : List ℕ) (place : ℕ) (block : List ℕ) → number_of_tests (answer_of_sealing S key payload place block) ≡ 0
+pub sealable : (S : Scheme) (key payload : List ℕ) (place : ℕ) (block : List ℕ) → number_of (answer_of_sealing S key payload place block) ≡ 0
     → Sealable S key payload place block
-unfolding tests_of_sealing
 sealable S key payload place block e =
     let t = none_holds (tests_of_sealing S key payload place block) e in
     record {
@@ -64,8 +60,7 @@ pub record Openable (S : Scheme) (key : List ℕ) (place : ℕ) (C : List ℕ) :
 module _ (S : Scheme) (key : List ℕ) (pack place : ℕ) (C : List ℕ) where
   -- The check alone decides where the other tests are passed.
   pub by_check : Openable S key place C → (t : Bool) → passes pack place (deciphered_block S key pack place C) ≡ t
-      → answer_of S key pack place C ≡ cond (not t) (Refused (failure C)) (Done (used (deciphered_block S key pack place C)))
-  unfolding tests looks_at
+      → answer_of S key pack place C ≡ cond (not t) (Err (failure C)) (Ok (used (deciphered_block S key pack place C)))
   by_check o true e = rw (o.is_key_lem, eq-eqb _ 512 o.block_length, le-ltb 65535 _ o.place_limit, e)
   by_check o false e = rw (o.is_key_lem, eq-eqb _ 512 o.block_length, le-ltb 65535 _ o.place_limit, e)
 
@@ -75,24 +70,18 @@ module _ (S : Scheme) (key : List ℕ) (pack place : ℕ) (C : List ℕ) where
     passed : passes pack place (deciphered_block S key pack place C) ≡ true
 
   -- Where none of the tests between the key and the check holds, the block is deciphered.
-  pub openable : looks_at (take 2 (drop 1 (tests S key pack place C))) ≡ NoTestHolds → (length C ≡ 512) × (place ≤ 65535)
-  unfolding tests
+  pub openable : looks_at (tests_between place C) ≡ Ok tt → (length C ≡ 512) × (place ≤ 65535)
   openable e =
-      let t = none_holds (take 2 (drop 1 (tests S key pack place C))) (ap number_of_tests e) in
+      let t = none_holds (tests_between place C) (ap number_of e) in
       (eqb-true (length C) 512 (not_false _ t.0), ltb-false 65535 place t.1.0)
 
-  behind_key : S.is_key key ≡ true → looks_at (take 3 (tests S key pack place C)) ≡ looks_at (take 2 (drop 1 (tests S key pack place C)))
-  unfolding tests looks_at
-  behind_key k = rw k
-
   -- A refusal before that is the answer, and leaves the block. Then one of the numbers 1, 7 and 6 applies, and numbers 8 and 12 are not asked for.
-  refused_first : {why : Refusal} → looks_at (take 3 (tests S key pack place C)) ≡ FirstIs why → Opens S key pack place C (Refused why) C
-  unfolding tests
+  refused_first : {why : Refusal} → looks_at (take 3 (tests S key pack place C)) ≡ Err why → Opens S key pack place C (Err why) C
   refused_first {why} e =
       let B = deciphered_block S key pack place C in
-      let passed : Openable S key place C → looks_at (take 3 (tests S key pack place C)) ≡ NoTestHolds =
-      λ o. rw (o.is_key_lem, eq-eqb (length C) 512 o.block_length, le-ltb 65535 place o.place_limit) (all_passed _ (refl, (refl, (refl, tt)))) in
-      let refused : FirstIs why ≡ FirstIs why = refl in
+      let passed : Openable S key place C → looks_at (take 3 (tests S key pack place C)) ≡ Ok tt =
+      λ o. rw (o.is_key_lem, eq-eqb (length C) 512 o.block_length, le-ltb 65535 place o.place_limit) refl in
+      let refused : ◌≡◌ {A = Opened} (Err why) (Err why) = refl in
       record {
         answered = sym (ap (returning (used B)) (refused_early 3 (tests S key pack place C) why e));
         left = refusal_leaves why B C;
@@ -100,24 +89,21 @@ module _ (S : Scheme) (key : List ℕ) (pack place : ℕ) (C : List ℕ) where
           used_limit = λ z. absurd (refused_some refused z);
           sealed = λ z. absurd (refused_some refused z);
           one_block = λ z. absurd (refused_some refused z);
-          unopened = λ k h l. absurd (refused_some e (ap number_of_tests (passed (record { is_key_lem = k; block_length = h; place_limit = l }))));
+          unopened = λ k h l. absurd (refused_some e (ap number_of (passed (record { is_key_lem = k; block_length = h; place_limit = l }))));
         };
       }
 
   -- It is that of a string which is no key, or that of the tests behind the key.
-  pub no_key : S.is_key key ≡ false → Opens S key pack place C (Refused KeyLength) C
-  unfolding tests looks_at
+  pub no_key : S.is_key key ≡ false → Opens S key pack place C (Err KeyLength) C
   no_key k = refused_first (rw k)
 
-  pub refused_behind : {why : Refusal} → S.is_key key ≡ true → looks_at (take 2 (drop 1 (tests S key pack place C))) ≡ FirstIs why
-      → Opens S key pack place C (Refused why) C
-  refused_behind k e = refused_first (behind_key k ∙ e)
+  pub refused_behind : {why : Refusal} → S.is_key key ≡ true → looks_at (tests_between place C) ≡ Err why → Opens S key pack place C (Err why) C
+  refused_behind k e = refused_first (rw k e)
 
-  by_tests : number_of (answer_of S key pack place C) ≡ number_of_tests (looks_at (tests S key pack place C))
+  by_tests : number_of (answer_of S key pack place C) ≡ number_of (looks_at (tests S key pack place C))
   by_tests = number_returned (used (deciphered_block S key pack place C)) (looks_at (tests S key pack place C))
 
   admitted : number_of (answer_of S key pack place C) ≡ 0 → Admitted
-  unfolding tests
   admitted e =
       let t = none_holds (tests S key pack place C) (sym by_tests ∙ e) in
       record {
@@ -129,10 +115,10 @@ module _ (S : Scheme) (key : List ℕ) (pack place : ℕ) (C : List ℕ) where
         passed = not_false _ t.1.1.1.0;
       }
 
-  done : Admitted → answer_of S key pack place C ≡ Done (used (deciphered_block S key pack place C))
+  done : Admitted → answer_of S key pack place C ≡ Ok (used (deciphered_block S key pack place C))
   done a = by_check a.within true a.passed
 
-  pub opened_answer : number_of (answer_of S key pack place C) ≡ 0 → answer_of S key pack place C ≡ Done (used (deciphered_block S key pack place C))
+  pub opened_answer : number_of (answer_of S key pack place C) ≡ 0 → answer_of S key pack place C ≡ Ok (used (deciphered_block S key pack place C))
   opened_answer e = done (admitted e)
 
   -- What it is to open to a payload: the block opens, with the payload's length as u and the payload in front.
@@ -190,7 +176,7 @@ module _ (S : Scheme) (key : List ℕ) (pack place : ℕ) (cipher : CipherAt S k
     unfolding seal deciphered_block
     deciphered_sealed = cipher.undone (plain_block payload pack place) (plain_of_length payload pack place b h)
 
-    pub answer_sealed : S.is_key key ≡ true → place ≤ 65535 → answer_of S key pack place (seal S key payload pack place) ≡ Done (length payload)
+    pub answer_sealed : S.is_key key ≡ true → place ≤ 65535 → answer_of S key pack place (seal S key payload pack place) ≡ Ok (length payload)
     answer_sealed k l =
         by_check S key pack place (seal S key payload pack place) (record { is_key_lem = k; block_length = seal_of_length.0; place_limit = l }) true
         (rw deciphered_sealed (passes_plain payload pack place h))

@@ -6,7 +6,7 @@ use mathlib.Core.List.{List}
 use Rattle.strings.specs.Cipher.{TweakableCipher, Scheme, Same}
 use Rattle.layout.specs.Layout.{plain_block, tweak}
 use Rattle.pack.specs.Sealing.{seal}
-use Rattle.pack.specs.Opening.{deciphered_block, tests, answer_of}
+use Rattle.pack.specs.Opening.{deciphered_block, answer_of}
 
 module _ {S S' : Scheme} {key key' : List ℕ} (same : Same S key S' key') where
   pub same_cipher : (t n : ℕ) → TweakableCipher t n (S.encipher key) (S.decipher key) → TweakableCipher t n (S'.encipher key') (S'.decipher key')
@@ -21,5 +21,4 @@ module _ {S S' : Scheme} {key key' : List ℕ} (same : Same S key S' key') where
   same_deciphered pack place C = ap (λ (f : List ℕ → List ℕ → List ℕ). f (tweak pack place) C) same.deciphers
 
   pub same_answer : (pack place : ℕ) (C : List ℕ) → answer_of S key pack place C ≡ answer_of S' key' pack place C
-  unfolding tests
   same_answer pack place C = rw (same.takes, same_deciphered pack place C)

@@ -12,8 +12,9 @@ use Rattle.layout.specs.Layout.{tweak}
 use Rattle.layout.proofs.Check.{tweak_of_length, take_plain}
 use Rattle.layout.proofs.Parts.{none_refused, found_limit}
 use Rattle.layout.proofs.Theorems as Layout
+use Rattle.strings.specs.Call.{number_of}
 use Rattle.pack.specs.Sealing.{seal, WithinLimits}
-use Rattle.pack.specs.Opening.{number_of, values_of}
+use Rattle.pack.specs.Opening.{values_of}
 use Rattle.pack.specs.Inner.{CipherAt}
 use Rattle.pack.specs.Theorems.{IsFound, Pack, Theorems}
 use Rattle.pack.proofs.OneBlock.{deciphered_sealed, answer_sealed, only_sealed, one_block, unopened}

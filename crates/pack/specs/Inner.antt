@@ -1,10 +1,9 @@
 -- What the contracts of inner functions cite: nobody has to believe it.
 use Rattle.std.specs.Prelude.{ℕ, ◌≡◌, cond, List, eqb, length}
-use Rattle.strings.specs.Call.{left_by}
+use Rattle.strings.specs.Call.{number_of, left_by}
 use Rattle.strings.specs.Cipher.{Cipher, Scheme}
 use Rattle.layout.specs.Layout.{tweak}
-use Rattle.pack.specs.Opening.{number_of, deciphered_block, answer_of, Meaning}
-use Rattle.pack.specs.declared.opening.Opened.{Opened}
+use Rattle.pack.specs.Opening.{Opened, deciphered_block, answer_of, Meaning}
 
 -- What f makes of a block of 512 bytes; a string of another length stays as it is.
 unfoldable pub on_block : (f : List ℕ → List ℕ) → List ℕ → List ℕ

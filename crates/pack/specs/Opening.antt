@@ -1,43 +1,46 @@
 -- Opening by a scheme S: what it answers, and what that means.
-use Rattle.std.specs.Prelude.{ℕ, ◌≤◌, ◌≡◌, Bool, true, cond, not, ◌&&◌, List, [], ◌∷◌, ◌⊎◌, ltb, eqb, length, take, replicate}
+use Rattle.std.specs.Prelude.{ℕ, ◌≤◌, ◌≡◌, Bool, true, cond, not, ◌&&◌, List, [], ◌∷◌, ◌⊎◌, ltb, eqb, length, take, replicate, Result, Ok, Err}
 use Rattle.strings.specs.Bytes.{Bytes, equal}
 use Rattle.strings.specs.Cipher.{Scheme}
 use Rattle.strings.specs.One.{OneString}
-use Rattle.strings.specs.Call.{refusal_number, Tests, looks_at, left_by}
-use Rattle.strings.specs.declared.refusal.Answer.{Answer}
-use Rattle.strings.specs.declared.refusal.Answer.TheVariants.{Done as NoTestHolds, Refused as FirstIs}
+use Rattle.strings.specs.Call.{Answer, number_of, Tests, looks_at, left_by}
 use Rattle.strings.specs.declared.refusal.Refusal.{Refusal}
 use Rattle.strings.specs.declared.refusal.Refusal.TheVariants.{KeyLength, PlaceTooHigh, BlockLength, CheckFailed, Blank}
 use Rattle.layout.specs.Layout.{tweak, used, payload_of, passes, is_zero}
 use Rattle.pack.specs.Sealing.{seal}
-use Rattle.pack.specs.declared.opening.Opened.{Opened}
-use Rattle.pack.specs.declared.opening.Opened.TheVariants.{Done, Refused}
 
--- 01's number, 0 for a call that was done, and what a call returns beside it: u where the block was opened; a refusal returns its number alone.
-abbrev pub number_of : Opened → ℕ
-number_of (Done u) = 0
-number_of (Refused why) = refusal_number why
+-- What opening answers: u, the length of the payload, or why the block was not opened.
+abbrev pub Opened : Type 0
+Opened = Result ℕ Refusal
 
+-- What a call returns beside its number: u where the block was opened; a refusal returns its number alone.
 abbrev pub values_of : Opened → List ℕ
-values_of (Done u) = u ∷ []
-values_of (Refused why) = []
+values_of (Ok u) = u ∷ []
+values_of (Err why) = []
 
 -- The answer by the tests, with u where none of them holds.
 abbrev pub returning : ℕ → Answer → Opened
-returning u NoTestHolds = Done u
-returning u (FirstIs why) = Refused why
+returning u (Ok a) = Ok u
+returning u (Err why) = Err why
 
 -- 02, Point 4, "12, blank, in the place of 8": why a block that fails its check is refused.
 abbrev pub failure : List ℕ → Refusal
 failure C = cond (is_zero C) Blank CheckFailed
+
+-- 01, "Opening looks at 1, 7, 6, 8": between the key and the check at 7 and 6.
+abbrev pub tests_between : (place : ℕ) (C : List ℕ) → Tests
+tests_between place C =
+    (not (eqb (length C) 512), BlockLength)
+    ∷ (ltb 65535 place, PlaceTooHigh)
+    ∷ []
 
 module _ (S : Scheme) where
   -- The lent block C deciphered: a plain block, where it passes its check.
   unfoldable pub deciphered_block : (key : List ℕ) (pack place : ℕ) (C : List ℕ) → List ℕ
   deciphered_block key pack place C = S.decipher key (tweak pack place) C
 
-  -- 01, "Opening looks at 1, 7, 6, 8"; number 12 stands in the place of 8.
-  unfoldable pub tests : (key : List ℕ) (pack place : ℕ) (C : List ℕ) → Tests
+  -- At the key first, and at the check last; number 12 stands in the place of 8.
+  abbrev pub tests : (key : List ℕ) (pack place : ℕ) (C : List ℕ) → Tests
   tests key pack place C =
       (not (S.is_key key), KeyLength)
       ∷ (not (eqb (length C) 512), BlockLength)

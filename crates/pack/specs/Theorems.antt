@@ -2,15 +2,15 @@
 use Rattle.std.specs.Prelude.{ℕ, ◌≤◌, ◌≡◌, true, List, [], ◌∷◌, length, take}
 use Rattle.strings.specs.Bytes.{Bytes, OfLength}
 use Rattle.strings.specs.Cipher.{TweakableCipher, Scheme}
-use Rattle.strings.specs.Call.{number_of as number_of_finding}
+use Rattle.strings.specs.Call.{number_of}
 use Rattle.layout.specs.Layout.{plain_block}
 use Rattle.layout.specs.Finding.{with_part, answer_of as answer_of_finding, found}
 use Rattle.pack.specs.Sealing.{seal, WithinLimits}
-use Rattle.pack.specs.Opening.{number_of, values_of, deciphered_block, answer_of, opens_to, OneBlock, UnopenedMeaning}
+use Rattle.pack.specs.Opening.{values_of, deciphered_block, answer_of, opens_to, OneBlock, UnopenedMeaning}
 
 -- The block of a place is found in a pack of blocks; and the pack once a payload was sealed into that part of it.
 abbrev pub IsFound : (place : ℕ) (blocks : List ℕ) → Type 0
-IsFound place blocks = number_of_finding (answer_of_finding place blocks) ≡ 0
+IsFound place blocks = number_of (answer_of_finding place blocks) ≡ 0
 
 abbrev pub sealed_in_place : (S : Scheme) (key payload : List ℕ) (pack place : ℕ) (blocks : List ℕ) → List ℕ
 sealed_in_place S key payload pack place blocks = with_part place (seal S key payload pack place) blocks

@@ -5,5 +5,5 @@ pub mod cipher;
 mod opening;
 mod sealing;
 
-pub use opening::{Opened, forward_open, open, open_by, open_with};
-pub use sealing::{forward_seal, seal, seal_by};
+pub use opening::{open, open_with};
+pub use sealing::seal;

@@ -63,6 +63,11 @@ pub passed : (holds : Bool) (why : Refusal) {r : Answer} {a : ⊤} → r ≡ con
 passed true why e ok = absurd (refusal_some why (ap number_of (sym e ∙ ok)))
 passed false why e ok = refl
 
+-- What was made under a condition tells that it holds.
+pub made : {A : Type 0} (holds : Bool) (a : A) (why : Refusal) {r : Result A Refusal} {b : A} → r ≡ cond holds (Ok a) (Err why) → r ≡ Ok b → holds ≡ true
+made true a why e ok = refl
+made false a why e ok = absurd (refusal_some why (ap number_of (sym e ∙ ok)))
+
 pub not_false : (t : Bool) → not t ≡ false → t ≡ true
 not_false true e = refl
 not_false false e = sym e

@@ -1,4 +1,4 @@
--- The lengths are those that every scheme admits, so it does its work, and its contract says that it is a cipher.
+-- The length is one that the scheme takes, so it does its work, and its contract says that it is a cipher.
 use borrow.Author.Tests.{eq-eqb, ne_eqb}
 use Rattle.pack.specs.Inner.{on_block}
 use Rattle.pack.proofs.Admits.{by_contract}
@@ -6,16 +6,16 @@ use Rattle.pack.proofs.cipher.encipher.Goals as goal
 
 pub returns-then-block-eq512 : goal.returns-then-block-eq512
 unfolding on_block
-returns-then-block-eq512 c =
+returns-then-block-eq512 g c =
     let a = c.args in
     let size = c.if-block-eq512.true in
     let e = c.encipher_with.ensures in
     let told =
-    by_contract a.pack a.place a.block.now size a.name a.expanded _ _
-    (rw c.tweak-tweak.ensures at e.value) (rw c.tweak-tweak.ensures at e.message_after) (rw c.tweak-tweak.ensures at e.cipher) in
+    by_contract (g.S.Scheme.under a.expanded) g.S.Scheme.least g.S.Scheme.short a.position.pack a.position.place a.block.now g.S.Scheme.laws.takes_blocks size
+    (rw c.tweak.ensures at e.value) (rw c.tweak.ensures at e.message_after) (rw c.tweak.ensures at e.cipher) in
     record { block_after = rw (eq-eqb _ 512 size) told.0; cipher_at = λ l. told.1 }
 
 pub returns-else-block-eq512 : goal.returns-else-block-eq512
 unfolding on_block
-returns-else-block-eq512 c =
+returns-else-block-eq512 g c =
     record { block_after = rw (ne_eqb _ 512 c.if-block-eq512.false); cipher_at = λ l. absurd (c.if-block-eq512.false l) }
