@@ -10,6 +10,7 @@ use lib.Arith.{digits_lt, digits_div, mod-mul}
 use lib.Pow.{pow-add}
 use lib.ListN.{length, get_or, take, drop, replicate, length-append, get_or-eq_default}
 use lib.Seq.{get_or-drop, drop-drop, take-nil, take_all, length-take-le}
+use Rattle.std.specs.Int.{w32, to_be_bytes, from_be_bytes}
 use Rattle.strings.specs.Xor.{◌⊕◌, xor_bytes}
 use Rattle.strings.specs.Bytes.{Below, Bytes, number, bytes}
 use Rattle.strings.specs.Inner.{padded}
@@ -166,3 +167,14 @@ take-zeros (suc n) (a ∷ s) = rw (suc-sub-suc, take-zeros n s)
 
 pub padded-take : (n : ℕ) (s : List ℕ) → n ≤ length s → padded n s ≡ take n s
 padded-take n s h = rw (← take-zeros n s, length-take-le n s h, sub_self, append-nil)
+
+-- What std says of a word's four bytes.
+pub be_bytes : (w : ℕ) → to_be_bytes w32 w ≡ bytes 4 w
+unfolding bytes
+be_bytes w =
+    let last : w % 256 ≡ w / 256 ^ 0 % 256 = omega arith in
+    ap (λ (b : ℕ). w / 256 ^ 3 % 256 ∷ w / 256 ^ 2 % 256 ∷ w / 256 ^ 1 % 256 ∷ b ∷ []) last
+
+pub be_number : (s : List ℕ) → from_be_bytes w32 s ≡ number (get_or s 0 0 ∷ get_or s 1 0 ∷ get_or s 2 0 ∷ get_or s 3 0 ∷ [])
+unfolding number
+be_number s = omega arith

@@ -1,5 +1,5 @@
 // Bytes at a place of a string.
-ghost use Rattle.std.specs.Prelude.{◌≡◌, min, get_or};
+ghost use Rattle.std.specs.Prelude.{◌≡◌, min};
 ghost use Rattle.strings.specs.Inner.{overwrite};
 
 // Writes `s` into `out` from place `at` on, cut where `out` ends.
@@ -7,7 +7,7 @@ pub fn write(out: &mut [u8], at: usize, s: &[u8])
     ensures { out.new ≡ overwrite at s.now out.old }
 {
     if at < out.len() {
-        let n = least(s.len(), out.len() - at);
+        let n = s.len().min(out.len() - at);
         out[at..at + n].copy_from_slice(&s[..n]);
     }
 }
@@ -16,12 +16,5 @@ pub fn write(out: &mut [u8], at: usize, s: &[u8])
 pub fn least(a: usize, b: usize) -> usize
     ensures { result ≡ min a b }
 {
-    if a < b { a } else { b }
-}
-
-// The entry of a table at a byte.
-pub fn entry(table: &[u8; 256], b: u8) -> u8
-    ensures { result ≡ get_or table.now b 0 }
-{
-    table[b as usize]
+    a.min(b)
 }

@@ -20,7 +20,6 @@ loop-i-init c = omega arith
 pub loop-i-preserved : goal.loop-i-preserved
 loop-i-preserved c =
     let l = c.loop-i in
-    let left = c.left-there in
     let a = c.args in
     let s = a.s.now in
     let b : ℕ = get_or s (a.at + l.i) 0 in
@@ -31,7 +30,7 @@ loop-i-preserved c =
       elim c.if-i-there.branch [
         | then-i-there w ↦ w.value-is ∙ next
         | else-i-there w ↦
-            let none : b ≡ 0 = get_or-eq_default s 0 (omega (arith, left.ensures, w.if-i-there.false)) in
+            let none : b ≡ 0 = get_or-eq_default s 0 (omega (arith, c.saturating_sub-there.ensures, w.if-i-there.false)) in
             omega (arith, next, w.value-is, none)
       ],
     )

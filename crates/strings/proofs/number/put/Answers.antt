@@ -19,7 +19,6 @@ loop-i-init c =
 pub loop-i-preserved : goal.loop-i-preserved
 loop-i-preserved c =
     let l = c.loop-i in
-    let left = c.left-there in
     let a = c.args in
     let k = a.at + (l.i - 1) in
     let back : k + 1 ≡ a.at + l.i = omega arith in
@@ -28,7 +27,7 @@ loop-i-preserved c =
     elim c.if-i-there.branch [
       | then-i-there w ↦ w.out-is
       | else-i-there w ↦
-          let past : length l.out ≤ k = rw (l.invariant.2, length-overwrite) (omega (arith, left.ensures, w.if-i-there.false)) in
+          let past : length l.out ≤ k = rw (l.invariant.2, length-overwrite) (omega (arith, c.saturating_sub-there.ensures, w.if-i-there.false)) in
           w.out-is ∙ sym (set_out l.out k (l.rest % 256) past)
     ] in (
       omega arith,

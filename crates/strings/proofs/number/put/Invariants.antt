@@ -7,6 +7,3 @@ use Rattle.strings.proofs.number.put.Given as goal
 
 abbrev pub invariant-loop-i : goal.invariant-loop-i
 invariant-loop-i l = (l.i ≤ l.n) × (l.rest ≡ l.value / 256 ^ (l.n - l.i)) × (l.out ≡ overwrite (l.at + l.i) (bytes (l.n - l.i) l.value) l.initial.out)
-
-abbrev pub decreases-loop-i : goal.decreases-loop-i
-decreases-loop-i l = l.i

@@ -1,8 +1,0 @@
--- The four bytes, added up from the highest.
-use native.Mathlib.Omega.{arith}
-use Rattle.strings.specs.Bytes.{number}
-use Rattle.strings.proofs.number.word.Goals as goal
-
-pub returns : goal.returns
-unfolding number
-returns c = omega arith
