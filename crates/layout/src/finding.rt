@@ -36,7 +36,7 @@ pub fn find(pack: &[u8], place: u32) -> &[u8]
     &pack[at..at + 512]
 }
 
-// The same part, to be written to. That the pack is not written to here is for a reader to see: no clause says what is left of a pack whose part is handed out.
+// The same part, to be written to; nothing stands over `&` and `&mut`, so the body is written twice. That the pack is not written to here is for a reader to see: no clause says what is left of a pack whose part is handed out.
 pub fn find_mut(pack: &mut [u8], place: u32) -> &mut [u8]
     ensures result_value { result.now ≡ found place pack.old }
     ensures begins_at { BeginsAt place (as_bor pack.entry) (as_bor result) }
