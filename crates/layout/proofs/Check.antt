@@ -238,10 +238,6 @@ unfolding fits
 both_fit payload block h l = search rules
 
 -- Of a payload that stands at the front of its block: what the tests tell, and the block when its check was written.
-pub no_block : (u : ℕ) (block : List ℕ) → (length block ≡ 512 → ⊥) → fits (take u block) block ≡ false
-unfolding fits
-no_block u block h = search rules
-
 pub too_long : (u : ℕ) (block : List ℕ) → length block ≡ 512 → 496 < u → fits (take u block) block ≡ false
 unfolding fits
 too_long u block l h = search (rules, length-take)
