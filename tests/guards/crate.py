@@ -4,12 +4,16 @@ import re
 
 from edits import pairs_of, refused
 from promises import (CLAUSE, PUBLIC, clauses, contracts, has_other_types,
-                      is_of_a_clause, statements, without_comments)
+                      is_of_a_clause, members, statements, without_comments)
 
-# Functions that are neither public nor private, methods that promise what
-# their trait does, and ghost values, which a clause may speak of.
+# Functions that are neither public nor private, traits that are not public, and
+# ghost values over several lines, which a clause may speak of.
 UNREAD = re.compile(r"\bfn \w|\bmod \w+ {|\btrait \w|\bimpl\b.* for \w|"
                     r"\bmacro_rules!|^ *ghost (?!use )")
+
+# What implements a trait proves its laws in specs/, since rt lets it cite no
+# proofs of its own crate: such a file has proofs alone, of crates below.
+LAWS = "specs/Laws.antt"
 
 
 class Crate:
@@ -110,7 +114,8 @@ class Crate:
         exported = False
         for line in text.split("\n"):
             private = re.match(r" *(pub\(crate\) )?fn ", line)
-            if UNREAD.search(line) and not (private or PUBLIC.match(line)):
+            if UNREAD.search(line) and not (
+                    private or PUBLIC.match(line) or members(line)):
                 yield f"{file}: a form that is not read: {line.strip()}"
             attribute = re.match(r" *#!?\[", line)
             if exported and not (attribute or PUBLIC.match(line)):
@@ -132,9 +137,12 @@ class Crate:
                 yield f"{file}: uses something over lines, which is not read"
             if file.startswith("specs/") and has_other_types(text):
                 yield f"{file}: has a type that is not read"
-            if not file.startswith("proofs/") and re.search(
+            proves = file.startswith("proofs/") or file == LAWS
+            if not proves and re.search(
                     r"^(pub |ghost )*use .*\.proofs\b", text, re.M):
                 yield f"{file}: uses a module of proofs"
+            if file == LAWS and re.search(r"^(abbrev|unfoldable)\b", text, re.M):
+                yield f"{file}: defines something"
         for file, text in self.source.items() if self.is_library else ():
             yield from self.contract_faults(file, text)
         for promise in self.promises:

@@ -1,5 +1,6 @@
-"""What is promised in a file: in src/ the heads of public functions and the
-clauses of their contracts, in specs/ the lines of records, data types and
+"""What is promised in a file: in src/ the heads of public functions, and of a
+trait's, and the clauses of their contracts, the heads of traits and of what
+implements them with their ghost members, in specs/ the lines of records, data types and
 propositions, and in both what is used under another name. In a crate without
 code, every line of specs/ is a promise, but for what is used as it is."""
 
@@ -7,6 +8,10 @@ import collections
 import re
 
 PUBLIC = re.compile(r' *(pub (?:extern "C" )?fn \w+.*)')
+METHOD = re.compile(r" {4}(fn \w+.*)")
+TRAIT = re.compile(r"pub trait .*{")
+MEMBER = re.compile(r"^(?:pub trait|impl(?:<.*>)?) .*{$|^ *ghost (?!use ).*;$",
+                    re.M)
 CLAUSE = re.compile(r" *ensures (?:\w+ )?({ .* })")
 QUOTED = re.compile(r"(?:(?:requires|ensures) )?(?:\w+ )?{ .* }")
 RENAMED = re.compile(r"^(?:pub |ghost )*use .* as .*\n", re.M)
@@ -32,14 +37,21 @@ def lines_of(file, parts):
 
 
 def contracts(text):
-    """The first line of each public function, and the lines of its contract:
-    what stands between its head and its body."""
+    """The first line of each public function and of each of a trait, and the
+    lines of its contract: what stands between its head and its body, or the
+    semicolon that stands for one."""
     lines = iter(text.split("\n"))
+    in_trait = False
     for line in lines:
+        in_trait = line != "}" if in_trait else TRAIT.fullmatch(line)
         found, contract = PUBLIC.match(line), []
+        if in_trait and not found:
+            found = METHOD.match(line)
         while found and not re.fullmatch(r"(?!.*(requires|ensures)).*{", line):
             if contract or re.search(r"\b(requires|ensures)\b", line):
-                contract.append(line)
+                contract.append(line.removesuffix(";"))
+            if line.endswith(";"):
+                break
             line = next(lines, "{")
         if found:
             yield found[1], contract
@@ -53,11 +65,18 @@ def is_of_a_clause(quoted, text):
         if re.match(r" *(requires|ensures)\b", line))
 
 
+def members(text):
+    """The heads of traits and of what implements them, and ghost members."""
+    return [line for line in MEMBER.findall(text)
+            if " for " in line or not line.startswith("impl")]
+
+
 def clauses(file, text, whole):
     """Each function's first line, and each clause's fact in its braces; the
     clause with its name, where the whole file has the fact twice. Two methods
     with the same first line cannot be quoted by it."""
     yield from lines_of(file, RENAMED.findall(text))
+    yield from lines_of(file, members(text))
     for head, contract in contracts(text):
         if text.count(head) == 1:
             yield Promise(file, head, re.escape(head))

@@ -7,22 +7,20 @@ use mathlib.Core.List.{List}
 use native.Mathlib.Nat.{eq-or-lt_of_le}
 use native.Mathlib.Omega.{arith}
 use lib.ListN.{get_or}
-use Rattle.strings.specs.Call.{left_by}
+use Rattle.strings.specs.Call.{number_of as number_of_block, left_by}
+use Rattle.std.specs.Prelude.{Ok, Err}
 use Rattle.strings.specs.Cipher.{Scheme}
 use Rattle.strings.specs.declared.refusal.Refusal.{Refusal}
 use Rattle.strings.proofs.Refusals.{refusal_range, refusal_leaves}
 use Rattle.layout.specs.Finding.{part}
 use Rattle.layout.proofs.Parts.{before_or_from}
-use Rattle.pack.specs.Opening.{number_of as number_of_block, answer_of as answer_of_block}
-use Rattle.pack.specs.declared.opening.Opened.{Opened}
-use Rattle.pack.specs.declared.opening.Opened.TheVariants.{Done as BlockOpened, Refused as BlockRefused}
-use Rattle.runs.specs.Opening.{number_of, values_of, next, in_turn, BlockOpens, EarlierOpen}
+use Rattle.pack.specs.Opening.{Opened, answer_of as answer_of_block}
+use Rattle.runs.specs.Opening.{RunOpened, number_of, values_of, next, in_turn, BlockOpens, EarlierOpen}
 use Rattle.runs.proofs.Blocks.{below_more}
-use Rattle.runs.specs.declared.opening.RunOpened.{RunOpened}
-use Rattle.runs.specs.declared.opening.RunOpened.TheVariants.{Done, Failed}
+use Rattle.runs.specs.declared.opening.NotOpened.TheVariants.{Failed}
 
 -- A block that is refused comes back as it was lent.
-pub left_back : {r : Opened} {why : Refusal} → r ≡ BlockRefused why → (work lent : List ℕ) → left_by (number_of_block r) work lent ≡ lent
+pub left_back : {r : Opened} {why : Refusal} → r ≡ Err why → (work lent : List ℕ) → left_by (number_of_block r) work lent ≡ lent
 left_back {r} {why} e work lent = rw e (sym (refusal_leaves why work lent))
 
 module _ (S : Scheme) (key : List ℕ) (pack first : ℕ) (run : List ℕ) where
@@ -32,21 +30,21 @@ module _ (S : Scheme) (key : List ℕ) (pack first : ℕ) (run : List ℕ) where
     pub why : Refusal
     pub there : block < n
     pub before : EarlierOpen S key pack first run block
-    pub refused : answer_of_block S key pack (first + block) (part block run) ≡ BlockRefused why
-    pub answered : in_turn S key pack first n run ≡ Failed why (first + block)
+    pub refused : answer_of_block S key pack (first + block) (part block run) ≡ Err why
+    pub answered : in_turn S key pack first n run ≡ Err (Failed why (first + block))
 
   pub record AllOpen (n : ℕ) : Type 0 where
     pub each : EarlierOpen S key pack first run n
-    pub answered : in_turn S key pack first n run ≡ Done
+    pub answered : in_turn S key pack first n run ≡ Ok tt
 
   one_more : (n : ℕ) → AllOpen n → (r : Opened) → answer_of_block S key pack (first + n) (part n run) ≡ r → AllOpen (suc n) ⊎ FailsAt (suc n)
   unfolding in_turn
-  one_more n all (BlockOpened u) e =
+  one_more n all (Ok u) e =
       inl (record {
         each = λ i h. below_more (BlockOpens S key pack first run) n all.each (ap number_of_block e) i (omega (arith, h));
         answered = rw (all.answered, e);
       })
-  one_more n all (BlockRefused why) e =
+  one_more n all (Err why) e =
       inr (record { block = n; why = why; there = omega arith; before = all.each; refused = e; answered = rw (all.answered, e) })
 
   stays : (n : ℕ) → FailsAt n → FailsAt (suc n)
@@ -61,11 +59,11 @@ module _ (S : Scheme) (key : List ℕ) (pack first : ℕ) (run : List ℕ) where
       ⊎_elim (λ (all : AllOpen n). one_more n all (answer_of_block S key pack (first + n) (part n run)) refl) (λ (f : FailsAt n). inr (stays n f)) (in_turn_lem n)
 
   -- A block that is refused does not open.
-  refused_shut : {why : Refusal} (i : ℕ) → answer_of_block S key pack (first + i) (part i run) ≡ BlockRefused why → BlockOpens S key pack first run i → ⊥
+  refused_shut : {why : Refusal} (i : ℕ) → answer_of_block S key pack (first + i) (part i run) ≡ Err why → BlockOpens S key pack first run i → ⊥
   refused_shut {why} i e opens = omega (arith, (refusal_range why).0, sym (ap number_of_block e) ∙ opens)
 
   -- Where all open, the answer says so, and the other way round.
-  pub all_open : (n : ℕ) → EarlierOpen S key pack first run n → in_turn S key pack first n run ≡ Done
+  pub all_open : (n : ℕ) → EarlierOpen S key pack first run n → in_turn S key pack first n run ≡ Ok tt
   all_open n each =
       ⊎_elim (λ (all : AllOpen n). all.answered) (λ (f : FailsAt n). absurd (refused_shut f.block f.refused (each f.block f.there))) (in_turn_lem n)
 
@@ -81,13 +79,13 @@ module _ (S : Scheme) (key : List ℕ) (pack first : ℕ) (run : List ℕ) where
       (λ from. ⊎_elim (λ (e : f.block ≡ i). e) (λ (less : f.block < i). absurd (refused_shut f.block f.refused (before f.block less))) (eq-or-lt_of_le from))
 
   pub first_refused : (n i : ℕ) {why : Refusal} → i < n → EarlierOpen S key pack first run i
-      → answer_of_block S key pack (first + i) (part i run) ≡ BlockRefused why → in_turn S key pack first n run ≡ Failed why (first + i)
+      → answer_of_block S key pack (first + i) (part i run) ≡ Err why → in_turn S key pack first n run ≡ Err (Failed why (first + i))
   first_refused n i {why} h before e =
       ⊎_elim (λ (all : AllOpen n). absurd (refused_shut i e (all.each i h)))
       (λ (f : FailsAt n).
       let same = same_block n f i (refused_shut i e) before in
-      let one : BlockRefused f.why ≡ BlockRefused why = sym f.refused ∙ rw same e in
-      f.answered ∙ ap (λ (k : ℕ). Failed f.why (first + k)) same ∙ ap (λ (r : Opened). next Done r (first + i)) one) (in_turn_lem n)
+      let one : Err f.why ≡ Err why = sym f.refused ∙ rw same e in
+      f.answered ∙ ap (λ (k : ℕ). Err (Failed f.why (first + k))) same ∙ ap (λ (r : Opened). next (Ok tt) r (first + i)) one) (in_turn_lem n)
 
   -- The place that is told is that of a block.
   pub record PlaceOf (n place : ℕ) : Type 0 where
@@ -95,7 +93,7 @@ module _ (S : Scheme) (key : List ℕ) (pack first : ℕ) (run : List ℕ) where
     pub there : block < n
     pub at : place ≡ first + block
 
-  pub place_of : (n : ℕ) {why : Refusal} {place : ℕ} → in_turn S key pack first n run ≡ Failed why place → PlaceOf n place
+  pub place_of : (n : ℕ) {why : Refusal} {place : ℕ} → in_turn S key pack first n run ≡ Err (Failed why place) → PlaceOf n place
   place_of n {why} {place} e =
       ⊎_elim (λ (all : AllOpen n). absurd (omega (arith, (refusal_range why).0, sym (ap number_of e) ∙ ap number_of all.answered)))
       (λ (f : FailsAt n). record { block = f.block; there = f.there; at = ap (λ (r : RunOpened). get_or (values_of r) 0 0) (sym e ∙ f.answered) }) (in_turn_lem n)

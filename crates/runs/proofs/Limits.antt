@@ -7,24 +7,22 @@ use mathlib.Core.List.{List}
 use native.Mathlib.Omega.{arith}
 use borrow.Author.Tests.{eqb-true, ltb-false, eq-eqb, le-ltb}
 use lib.ListN.{length}
-use Rattle.strings.specs.Call.{number_of as number_of_tests, looks_at}
+use Rattle.strings.specs.Call.{Answer, number_of as number_of_tests, looks_at}
+use Rattle.std.specs.Prelude.{Ok, Err}
 use Rattle.strings.specs.Cipher.{Scheme}
-use Rattle.strings.specs.declared.refusal.Answer.{Answer}
-use Rattle.strings.specs.declared.refusal.Answer.TheVariants.{Done as NoTestHolds, Refused as FirstIs}
-use Rattle.strings.proofs.Refusals.{refusal_range, none_holds, all_passed, not_false}
+use Rattle.strings.proofs.Refusals.{refusal_range, none_holds, not_false}
 use Rattle.layout.specs.Finding.{block_count, is_pack}
 use Rattle.layout.proofs.Parts.{is_pack_lem, whole_blocks}
 use Rattle.runs.specs.Run.{last_place}
 use Rattle.runs.specs.Sealing.{some_over, tests as tests_of_sealing, answer_of as answer_of_sealing}
-use Rattle.runs.specs.Opening.{number_of, after, tests}
+use Rattle.runs.specs.Opening.{RunOpened, number_of, after, tests}
 use Rattle.runs.specs.Inner.{InRange}
-use Rattle.runs.specs.declared.opening.RunOpened.{RunOpened}
 
 -- ---- the number
 
 pub both_done : (a : Answer) (r : RunOpened) → number_of (after a r) ≡ 0 → (number_of_tests a ≡ 0) × (number_of r ≡ 0)
-both_done NoTestHolds r e = (refl, e)
-both_done (FirstIs why) r e = absurd (omega (arith, (refusal_range why).0, e))
+both_done (Ok a) r e = (refl, e)
+both_done (Err why) r e = absurd (omega (arith, (refusal_range why).0, e))
 
 -- ---- the tests
 
@@ -36,7 +34,6 @@ module _ (S : Scheme) (key : List ℕ) (first : ℕ) (lengths run : List ℕ) wh
     pub last_place_lem : last_place first run ≤ 65535
 
   pub sealable : number_of_tests (answer_of_sealing S key first lengths run) ≡ 0 → Admitted × (some_over 496 lengths ≡ false)
-  unfolding tests_of_sealing
   sealable e =
       let t = none_holds (tests_of_sealing S key first lengths run) e in (
         record {
@@ -49,7 +46,6 @@ module _ (S : Scheme) (key : List ℕ) (first : ℕ) (lengths run : List ℕ) wh
       )
 
   pub openable : number_of_tests (looks_at (tests S key first lengths run)) ≡ 0 → Admitted
-  unfolding tests
   openable e =
       let t = none_holds (tests S key first lengths run) e in
       record {
@@ -59,11 +55,9 @@ module _ (S : Scheme) (key : List ℕ) (first : ℕ) (lengths run : List ℕ) wh
         last_place_lem = ltb-false 65535 (last_place first run) t.1.1.1.0;
       }
 
-  pub no_test_holds : Admitted → looks_at (tests S key first lengths run) ≡ NoTestHolds
-  unfolding tests
+  pub no_test_holds : Admitted → looks_at (tests S key first lengths run) ≡ Ok tt
   no_test_holds a =
-      rw (a.is_key_lem, a.is_run, eq-eqb (length lengths) (block_count run) a.list_length, le-ltb 65535 (last_place first run) a.last_place_lem)
-      (all_passed _ (refl, (refl, (refl, (refl, tt)))))
+      rw (a.is_key_lem, a.is_run, eq-eqb (length lengths) (block_count run) a.list_length, le-ltb 65535 (last_place first run) a.last_place_lem) refl
 
   pub in_range : Admitted → InRange first run
   in_range a = record { whole = sym (whole_blocks run a.is_run); places = omega (arith, a.last_place_lem, (is_pack_lem run a.is_run).1) }

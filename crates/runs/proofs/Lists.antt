@@ -1,20 +1,18 @@
 -- The list of lengths, and the last place.
 -- Assumes nothing.
-use Prim.Native.Nat.{ℕ, zero, suc, ◌+◌, ◌-◌, ◌≤◌, ◌<◌, min}
-use mathlib.Core.Path.{◌≡◌, refl, sym, ap, ◌∙◌}
-use mathlib.Core.Bool.{Bool, true, false, cond, not, false≢true}
+use Prim.Native.Nat.{ℕ, zero, suc, ◌+◌, ◌-◌, ◌≤◌, ◌<◌}
+use mathlib.Core.Path.{◌≡◌, refl, sym, ◌∙◌}
+use mathlib.Core.Bool.{Bool, true, false, cond, ◌||◌, false≢true}
 use mathlib.Core.List.{List, [], ◌∷◌, ◌++◌, append_assoc}
 use native.Mathlib.Nat.{one-mul}
 use native.Mathlib.Numerals.{add-one}
 use native.Mathlib.Omega.{arith}
-use borrow.Author.Tests.{ltb-false, le-ltb, lt-ltb, eqb-true, not-false}
-use lib.Dec.{ltb, eqb}
-use lib.ListN.{length, get_or, set, take, drop}
-use lib.Seq.{drop-cons, set_at, take_all}
-use Rattle.strings.specs.Inner.{refuse_if}
-use Rattle.strings.specs.declared.refusal.Answer.{Answer}
-use Rattle.strings.specs.declared.refusal.Answer.TheVariants.{Done, Refused}
-use Rattle.strings.specs.declared.refusal.Refusal.{Refusal}
+use borrow.Author.Tests.{ltb-false, le-ltb, lt-ltb}
+use lib.Dec.{ltb}
+use lib.ListN.{length, get_or, set, drop}
+use lib.Seq.{drop-cons, set_at}
+use Rattle.std.specs.List.{list_any}
+use Rattle.std.specs.Prelude.{nat_lt}
 use Rattle.layout.specs.Finding.{part}
 use Rattle.layout.proofs.Parts.{before_or_from}
 use Rattle.runs.specs.Run.{blockwise}
@@ -36,6 +34,16 @@ one_or : (t : Bool) {r : Bool} → r ≡ true → cond t true r ≡ true
 one_or true e = refl
 one_or false e = e
 
+either : (t x : Bool) → (t || x) ≡ cond t true x
+either true x = refl
+either false x = refl
+
+-- The library's test of each entry.
+pub any_over : (limit : ℕ) (s : List ℕ) → list_any (λ u. nat_lt limit u) s ≡ some_over limit s
+unfolding some_over
+any_over limit [] = refl
+any_over limit (u ∷ s) = either (ltb limit u) _ ∙ rw (any_over limit s) refl
+
 pub none_over : (limit : ℕ) (s : List ℕ) → some_over limit s ≡ false → (i : ℕ) → get_or s i 0 ≤ limit
 unfolding some_over
 none_over limit [] h i = omega arith
@@ -52,22 +60,6 @@ pub some_over_lem : (limit : ℕ) (s : List ℕ) → ((i : ℕ) → i < length s
 unfolding some_over
 some_over_lem limit [] each = refl
 some_over_lem limit (u ∷ s) each = rw (le-ltb limit u (each 0 (omega arith))) (some_over_lem limit s (λ i h. each (suc i) (omega (arith, h))))
-
--- Of a list of another length than n, whose length is told before, no more than n entries have to be looked at.
-late_test : (a : Answer) (t : Bool) (why late : Refusal) (x y : Bool) → (t ≡ false → x ≡ y) → refuse_if (refuse_if a t why) x late ≡ refuse_if (refuse_if a t why) y late
-unfolding refuse_if
-late_test Done true why late x y same = refl
-late_test Done false why late x y same = rw (same refl)
-late_test (Refused first) t why late x y same = refl
-
-pub first_entries : (a : Answer) (why late : Refusal) (limit n : ℕ) (s : List ℕ)
-    → refuse_if (refuse_if a (not (eqb (length s) n)) why) (some_over limit (take (min n (length s) - 0) s)) late
-    ≡ refuse_if (refuse_if a (not (eqb (length s) n)) why) (some_over limit s) late
-first_entries a why late limit n s =
-    late_test a (not (eqb (length s) n)) why late (some_over limit (take (min n (length s) - 0) s)) (some_over limit s)
-    (λ e.
-    let same : length s ≡ n = eqb-true (length s) n (not-false (eqb (length s) n) e) in
-    ap (some_over limit) (take_all (min n (length s) - 0) s (omega (arith, same))))
 
 -- ---- a list that is filled with a number for each block
 

@@ -10,23 +10,22 @@ use native.Mathlib.Omega.{arith}
 use lib.ListN.{get_or, take}
 use lib.Seq.{take_all}
 use Rattle.strings.specs.Bytes.{Bytes}
-use Rattle.strings.specs.Call.{refusal_number, number_of as number_of_tests, looks_at, left_by}
+use Rattle.strings.specs.Call.{refusal_number, number_of as number_of_block, looks_at, left_by}
 use Rattle.strings.specs.Cipher.{TweakableCipher, Scheme}
-use Rattle.strings.specs.declared.refusal.Answer.TheVariants.{Refused as FirstIs}
+use Rattle.std.specs.Prelude.{Err}
 use Rattle.strings.specs.declared.refusal.Refusal.{Refusal}
 use Rattle.strings.proofs.Refusals.{refusal_range}
 use Rattle.layout.specs.Layout.{used, payload_of}
 use Rattle.layout.specs.Finding.{block_count, part}
 use Rattle.layout.proofs.Parts.{is_pack_lem, whole_blocks}
 use Rattle.pack.specs.Sealing.{seal}
-use Rattle.pack.specs.Opening.{number_of as number_of_block, deciphered_block, Unopened as BlockUnopened}
+use Rattle.pack.specs.Opening.{deciphered_block, Unopened as BlockUnopened}
 use Rattle.pack.proofs.OneBlock.{FromPayload, opened_from, unopened as block_unopened}
 use Rattle.runs.specs.Run.{blockwise}
 use Rattle.runs.specs.Sealing.{some_over, payload_at, sealed_run}
-use Rattle.runs.specs.Opening.{number_of, values_of, deciphered_run, used_lengths, in_turn, tests, answer_of, OneRun, block_number, BlockOpens, NumberAt, FirstNumber, Unopened, UnopenedMeaning, Meaning}
+use Rattle.runs.specs.Opening.{RunOpened, number_of, values_of, deciphered_run, used_lengths, in_turn, tests, answer_of, OneRun, block_number, BlockOpens, NumberAt, FirstNumber, Unopened, UnopenedMeaning, Meaning}
 use Rattle.runs.specs.Theorems.{WithinLimits}
-use Rattle.runs.specs.declared.opening.RunOpened.{RunOpened}
-use Rattle.runs.specs.declared.opening.RunOpened.TheVariants.{Refused}
+use Rattle.runs.specs.declared.opening.NotOpened.TheVariants.{Refused}
 use Rattle.runs.proofs.Answers.{FailsAt, AllOpen, in_turn_lem, each_opens, same_block}
 use Rattle.runs.proofs.Blocks.{length-blockwise, blockwise_same, blockwise_self}
 use Rattle.runs.proofs.Limits.{both_done, Admitted, openable, no_test_holds, in_range}
@@ -173,11 +172,11 @@ module _ (S : Scheme) (key : List ℕ) (cipher : TweakableCipher 16 512 (S.encip
   means lengths e l r = rw (l, r, e) (meaning lengths)
 
 -- A refusal before a block is opened is the answer, and the numbers 1, 10, 11 and 6 do not leave a block's number to be asked for.
-module _ (S : Scheme) (key : List ℕ) (pack first : ℕ) (lengths run : List ℕ) {why : Refusal} (e : looks_at (tests S key first lengths run) ≡ FirstIs why) where
-  pub refused_answer : answer_of S key pack first lengths run ≡ Refused why
+module _ (S : Scheme) (key : List ℕ) (pack first : ℕ) (lengths run : List ℕ) {why : Refusal} (e : looks_at (tests S key first lengths run) ≡ Err why) where
+  pub refused_answer : answer_of S key pack first lengths run ≡ Err (Refused why)
   refused_answer = rw e
 
-  pub refused_meaning : Meaning S (Refused why) key pack first lengths run lengths run
+  pub refused_meaning : Meaning S (Err (Refused why)) key pack first lengths run lengths run
   refused_meaning =
       let some : refusal_number why ≡ 0 → ⊥ = λ z. omega (arith, (refusal_range why).0, z) in
       record {
@@ -186,5 +185,5 @@ module _ (S : Scheme) (key : List ℕ) (pack first : ℕ) (lengths run : List �
         one_run = λ z. absurd (some z);
         unopened = λ k whole list last i h.
             let a : Admitted S key first lengths run = record { is_key_lem = k; is_run = whole; list_length = list; last_place_lem = last } in
-            absurd (some (ap number_of_tests (sym e ∙ no_test_holds S key first lengths run a)));
+            absurd (some (ap number_of_block (sym e ∙ no_test_holds S key first lengths run a)));
       }

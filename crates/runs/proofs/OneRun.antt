@@ -26,7 +26,7 @@ use Rattle.runs.specs.Run.{blockwise}
 use Rattle.runs.specs.Sealing.{payload_at, sealed_run, answer_of as answer_of_sealing}
 use Rattle.runs.specs.Opening.{number_of, deciphered_run, used_lengths, in_turn, tests, answer_of, lengths_of, begin_with, opens_to, OneRun}
 use Rattle.runs.specs.Theorems.{WithinLimits}
-use Rattle.runs.specs.declared.opening.RunOpened.TheVariants.{Done}
+use Rattle.std.specs.Prelude.{Ok}
 use Rattle.runs.proofs.Answers.{all_open, each_opens}
 use Rattle.runs.proofs.Blocks.{below_more, get_or-blockwise, blockwise_same}
 use Rattle.runs.proofs.Limits.{both_done, Admitted, sealable, no_test_holds, in_range}
@@ -126,7 +126,7 @@ module _ (S : Scheme) (key : List ℕ) (cipher : TweakableCipher 16 512 (S.encip
     unfolding opens_to used_lengths
     opens_run each =
         let o : (i : ℕ) → i < n → OpenedTo S key pack (first + i) (part i u) (payload i) = λ i h. opened_to S key pack (first + i) (part i u) (payload i) (each i h) in
-        let done : answer_of S key pack first (replicate n 0) u ≡ Done =
+        let done : answer_of S key pack first (replicate n 0) u ≡ Ok tt =
         rw (no_test_holds S key first (replicate n 0) u admitted) (all_open S key pack first u (block_count u) (λ i h. (o i (rw n_blocks at h)).answered)) in
         let lengths : used_lengths S key pack first u ≡ lengths_of payload n =
         blockwise_same (λ i C. used (deciphered_block S key pack (first + i) C) ∷ []) (λ i B. length (payload i) ∷ []) (block_count u) u u

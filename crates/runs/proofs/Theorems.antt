@@ -9,15 +9,14 @@ use borrow.Author.Tests.{eq-eqb, le-ltb}
 use lib.ListN.{length, get_or, take, drop, replicate, length-take, length-append, length-replicate}
 use lib.Seq.{take_at}
 use Rattle.strings.specs.Bytes.{Bytes}
-use Rattle.strings.specs.Call.{number_of as number_of_sealing}
+use Rattle.strings.specs.Call.{number_of as number_of_block}
 use Rattle.strings.specs.Cipher.{TweakableCipher, Scheme}
-use Rattle.strings.specs.declared.refusal.Answer.TheVariants.{Done as NoTestHolds}
+use Rattle.std.specs.Prelude.{Ok}
 use Rattle.strings.proofs.Bytes.{below_append, below_take, below_drop}
-use Rattle.strings.proofs.Refusals.{all_passed}
 use Rattle.layout.specs.Finding.{block_count, part, with_part}
 use Rattle.layout.proofs.Parts.{part_length, with_length, part_with_other, count_of, whole_blocks}
-use Rattle.pack.specs.Sealing.{seal, tests as tests_of_block_sealing, answer_of as answer_of_block_sealing}
-use Rattle.pack.specs.Opening.{number_of as number_of_block, values_of as values_of_block, deciphered_block, answer_of as answer_of_block}
+use Rattle.pack.specs.Sealing.{seal, answer_of as answer_of_block_sealing}
+use Rattle.pack.specs.Opening.{values_of as values_of_block, deciphered_block, answer_of as answer_of_block}
 use Rattle.pack.proofs.OneBlock.{opened_answer}
 use Rattle.runs.specs.Run.{one_by_one, OrderOf}
 use Rattle.runs.specs.Sealing.{payload_at, sealed_run, answer_of as answer_of_sealing}
@@ -40,16 +39,14 @@ bytes_with i block run hb hr =
 module _ (S : Scheme) (key : List ℕ) (k : S.is_key key ≡ true) (cipher : TweakableCipher 16 512 (S.encipher key) (S.decipher key)) where
   -- ---- as the one-block calls
 
-  module _ (first : ℕ) (lengths run : List ℕ) (e : number_of_sealing (answer_of_sealing S key first lengths run) ≡ 0) where
-    seals_block : (i : ℕ) → i < block_count run → answer_of_block_sealing S key (payload_at lengths run i) (first + i) (part i run) ≡ NoTestHolds
-    unfolding tests_of_block_sealing
+  module _ (first : ℕ) (lengths run : List ℕ) (e : number_of_block (answer_of_sealing S key first lengths run) ≡ 0) where
+    seals_block : (i : ℕ) → i < block_count run → answer_of_block_sealing S key (payload_at lengths run i) (first + i) (part i run) ≡ Ok tt
     seals_block i h =
         let s = sealable S key first lengths run e in
         let payload = payload_at lengths run i in
         let short : length payload ≤ 496 = rw length-take (omega (arith, none_over 496 lengths s.1 i)) in
         let place : first + i ≤ 65535 = omega (arith, (in_range S key first lengths run s.0).places, h) in
-        rw (s.0.is_key_lem, eq-eqb _ 512 (part_length i run (omega (arith, h))), le-ltb 496 (length payload) short, le-ltb 65535 (first + i) place)
-        (all_passed _ (refl, (refl, (refl, (refl, tt)))))
+        rw (s.0.is_key_lem, eq-eqb _ 512 (part_length i run (omega (arith, h))), le-ltb 496 (length payload) short, le-ltb 65535 (first + i) place) refl
 
     sealed_one_by_one : (pack : ℕ) → Bytes run → (order : List ℕ) → OrderOf (block_count run) order
         → one_by_one (sealing_call S key pack first lengths) order run ≡ sealed_run S key pack first lengths run
@@ -108,7 +105,7 @@ module _ (S : Scheme) (key : List ℕ) (k : S.is_key key ≡ true) (cipher : Twe
 
 any_cipher : (S : Scheme) (key : List ℕ) → S.is_key key ≡ true → TweakableCipher 16 512 (S.encipher key) (S.decipher key) → Runs S key
 any_cipher S key k cipher = record {
-  sealed_each = λ first lengths run e i h. ap number_of_sealing (seals_block S key k cipher first lengths run e i h);
+  sealed_each = λ first lengths run e i h. ap number_of_block (seals_block S key k cipher first lengths run e i h);
   sealed_one_by_one = λ pack first lengths run b e. sealed_one_by_one S key k cipher first lengths run e pack b;
   opened_each = λ pack first lengths run b e i h.
       let opened = opens_block S key k cipher pack first lengths run b e i h in

@@ -1,32 +1,31 @@
 -- Opening a run by a scheme S: what it answers, what it leaves, and what that means.
-use Rattle.std.specs.Prelude.{ℕ, zero, suc, ◌+◌, ◌*◌, ◌≤◌, ◌<◌, ◌≡◌, Bool, true, false, not, ◌&&◌, List, [], ◌∷◌, ◌++◌, ◌⊎◌, ltb, eqb, length, take, replicate}
+use Rattle.std.specs.Prelude.{ℕ, zero, suc, ◌+◌, ◌*◌, ◌≤◌, ◌<◌, ◌≡◌, Bool, true, false, not, ◌&&◌, List, [], ◌∷◌, ◌++◌, ◌⊎◌, ltb, eqb, length, take, replicate, ⊤, Result, Ok, Err}
 use Rattle.strings.specs.Bytes.{equal}
 use Rattle.strings.specs.Cipher.{Scheme}
 use Rattle.strings.specs.One.{OneString}
-use Rattle.strings.specs.Call.{refusal_number, Tests, looks_at, left_by}
-use Rattle.strings.specs.declared.refusal.Answer.{Answer}
-use Rattle.strings.specs.declared.refusal.Answer.TheVariants.{Done as NoTestHolds, Refused as FirstIs}
+use Rattle.strings.specs.Call.{Answer, refusal_number, number_of as number_of_block, Tests, looks_at, left_by}
 use Rattle.strings.specs.declared.refusal.Refusal.TheVariants.{KeyLength, PlaceTooHigh, PackLength, ListLength}
 use Rattle.layout.specs.Layout.{used}
 use Rattle.layout.specs.Finding.{block_count, is_pack, part}
-use Rattle.pack.specs.Opening.{number_of as number_of_block, deciphered_block, answer_of as answer_of_block, NoPayload}
-use Rattle.pack.specs.declared.opening.Opened.{Opened}
-use Rattle.pack.specs.declared.opening.Opened.TheVariants.{Done as BlockOpened, Refused as BlockRefused}
+use Rattle.pack.specs.Opening.{Opened, deciphered_block, answer_of as answer_of_block, NoPayload}
 use Rattle.runs.specs.Run.{blockwise, last_place}
 use Rattle.runs.specs.Sealing.{some_over, payload_at, sealed_run}
-use Rattle.runs.specs.declared.opening.RunOpened.{RunOpened}
-use Rattle.runs.specs.declared.opening.RunOpened.TheVariants.{Done, Refused, Failed}
+use Rattle.runs.specs.NotOpened.{why_of, places_of}
+use Rattle.runs.specs.declared.opening.NotOpened.{NotOpened}
+use Rattle.runs.specs.declared.opening.NotOpened.TheVariants.{Refused, Failed}
+
+-- What opening a run answers.
+abbrev pub RunOpened : Type 0
+RunOpened = Result ⊤ NotOpened
 
 -- The number, 0 for a call that was done, and what a call returns beside it: the place of the block that would not open.
 abbrev pub number_of : RunOpened → ℕ
-number_of Done = 0
-number_of (Refused why) = refusal_number why
-number_of (Failed why place) = refusal_number why
+number_of (Ok a) = 0
+number_of (Err e) = refusal_number (why_of e)
 
 abbrev pub values_of : RunOpened → List ℕ
-values_of Done = []
-values_of (Refused why) = []
-values_of (Failed why place) = place ∷ []
+values_of (Ok a) = []
+values_of (Err e) = places_of e
 
 -- The number n, with the place of block i.
 abbrev pub NumberAt : (answer : RunOpened) (n first i : ℕ) → Type 0
@@ -34,21 +33,20 @@ NumberAt answer n first i = (number_of answer ≡ n) × (values_of answer ≡ (f
 
 -- What the app's out parameter holds after a call: the place of the block that would not open, or what it held before.
 abbrev pub failed_place : RunOpened → (lent : ℕ) → ℕ
-failed_place Done lent = lent
-failed_place (Refused why) lent = lent
-failed_place (Failed why place) lent = place
+failed_place (Ok a) lent = lent
+failed_place (Err (Refused why)) lent = lent
+failed_place (Err (Failed why place)) lent = place
 
 -- The answer after one block more: a block is opened only where those before it have opened.
 abbrev pub next : RunOpened → Opened → (place : ℕ) → RunOpened
-next Done (BlockOpened u) place = Done
-next Done (BlockRefused why) place = Failed why place
-next (Refused why) opened place = Refused why
-next (Failed why first) opened place = Failed why first
+next (Ok a) (Ok u) place = Ok tt
+next (Ok a) (Err why) place = Err (Failed why place)
+next (Err e) opened place = Err e
 
 -- The answer by the tests, and by the blocks where none of them holds.
 abbrev pub after : Answer → RunOpened → RunOpened
-after NoTestHolds opened = opened
-after (FirstIs why) opened = Refused why
+after (Ok a) opened = opened
+after (Err why) opened = Err (Refused why)
 
 -- The lengths of n payloads.
 unfoldable pub lengths_of : (payload : ℕ → List ℕ) (n : ℕ) → List ℕ
@@ -60,6 +58,14 @@ unfoldable pub begin_with : (payload : ℕ → List ℕ) (n : ℕ) (run : List �
 begin_with payload zero run = true
 begin_with payload (suc n) run = begin_with payload n run && equal (take (length (payload n)) (part n run)) (payload n)
 
+-- 02, "opening at 1, 10, 11, 6, 8": behind the key; 8, and 12 in its place, is that of a block.
+abbrev pub tests_behind_key : (first : ℕ) (lengths run : List ℕ) → Tests
+tests_behind_key first lengths run =
+    (not (is_pack run), PackLength)
+    ∷ (not (eqb (length lengths) (block_count run)), ListLength)
+    ∷ (ltb 65535 (last_place first run), PlaceTooHigh)
+    ∷ []
+
 module _ (S : Scheme) where
   -- The run opened and the lengths of its payloads, by the one-block definitions.
   unfoldable pub deciphered_run : (key : List ℕ) (pack first : ℕ) (run : List ℕ) → List ℕ
@@ -70,17 +76,12 @@ module _ (S : Scheme) where
 
   -- The first n blocks, opened in turn by the one-block call.
   unfoldable pub in_turn : (key : List ℕ) (pack first n : ℕ) (run : List ℕ) → RunOpened
-  in_turn key pack first zero run = Done
+  in_turn key pack first zero run = Ok tt
   in_turn key pack first (suc n) run = next (in_turn key pack first n run) (answer_of_block S key pack (first + n) (part n run)) (first + n)
 
-  -- 02, "opening at 1, 10, 11, 6, 8": 8, and 12 in its place, is that of a block.
-  unfoldable pub tests : (key : List ℕ) (first : ℕ) (lengths run : List ℕ) → Tests
-  tests key first lengths run =
-      (not (S.is_key key), KeyLength)
-      ∷ (not (is_pack run), PackLength)
-      ∷ (not (eqb (length lengths) (block_count run)), ListLength)
-      ∷ (ltb 65535 (last_place first run), PlaceTooHigh)
-      ∷ []
+  -- The key is looked at first.
+  abbrev pub tests : (key : List ℕ) (first : ℕ) (lengths run : List ℕ) → Tests
+  tests key first lengths run = (not (S.is_key key), KeyLength) ∷ tests_behind_key first lengths run
 
   abbrev pub answer_of : (key : List ℕ) (pack first : ℕ) (lengths run : List ℕ) → RunOpened
   answer_of key pack first lengths run = after (looks_at (tests key first lengths run)) (in_turn key pack first (block_count run) run)

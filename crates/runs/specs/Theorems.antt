@@ -2,10 +2,10 @@
 use Rattle.std.specs.Prelude.{ℕ, ◌+◌, ◌-◌, ◌*◌, ◌≤◌, ◌<◌, ◌≡◌, true, List, [], ◌∷◌, ◌++◌, length, get_or, take, replicate}
 use Rattle.strings.specs.Bytes.{Bytes}
 use Rattle.strings.specs.Cipher.{TweakableCipher, Scheme}
-use Rattle.strings.specs.Call.{number_of as number_of_sealing, left_by}
+use Rattle.strings.specs.Call.{number_of as number_of_block, left_by}
 use Rattle.layout.specs.Finding.{block_count, part, with_part}
 use Rattle.pack.specs.Sealing.{seal, answer_of as answer_of_block_sealing}
-use Rattle.pack.specs.Opening.{number_of as number_of_block, values_of as values_of_block, deciphered_block, answer_of as answer_of_block}
+use Rattle.pack.specs.Opening.{values_of as values_of_block, deciphered_block, answer_of as answer_of_block}
 use Rattle.runs.specs.Run.{blockwise, one_by_one, OrderOf}
 use Rattle.runs.specs.Sealing.{payload_at, sealed_run, answer_of as answer_of_sealing}
 use Rattle.runs.specs.Opening.{number_of, deciphered_run, used_lengths, answer_of, run_left, list_left, lengths_of, OneRun, UnopenedMeaning}
@@ -14,7 +14,7 @@ use Rattle.runs.specs.Opening.{number_of, deciphered_run, used_lengths, answer_o
 abbrev pub sealing_call : (S : Scheme) (key : List ℕ) (pack first : ℕ) (lengths : List ℕ) (i : ℕ) (B : List ℕ) → List ℕ
 sealing_call S key pack first lengths i B =
     let payload = take (get_or lengths i 0) B in
-    left_by (number_of_sealing (answer_of_block_sealing S key payload (first + i) B)) (seal S key payload pack (first + i)) B
+    left_by (number_of_block (answer_of_block_sealing S key payload (first + i) B)) (seal S key payload pack (first + i)) B
 
 abbrev pub opening_call : (S : Scheme) (key : List ℕ) (pack first : ℕ) (i : ℕ) (C : List ℕ) → List ℕ
 opening_call S key pack first i C = left_by (number_of_block (answer_of_block S key pack (first + i) C)) (deciphered_block S key pack (first + i) C) C
@@ -39,9 +39,9 @@ laid_out n payload = blockwise (λ i B. payload i ++ replicate (512 - length (pa
 -- Of runs, by the scheme S under a key.
 pub record Runs (S : Scheme) (key : List ℕ) : Type 0 where
   -- Where sealing a run is done, each one-block call is, and the run is what they leave, made one by one in any order of the blocks.
-  pub sealed_each : (first : ℕ) (lengths run : List ℕ) → number_of_sealing (answer_of_sealing S key first lengths run) ≡ 0
-      → (i : ℕ) → i < block_count run → number_of_sealing (answer_of_block_sealing S key (payload_at lengths run i) (first + i) (part i run)) ≡ 0
-  pub sealed_one_by_one : (pack first : ℕ) (lengths run : List ℕ) → Bytes run → number_of_sealing (answer_of_sealing S key first lengths run) ≡ 0
+  pub sealed_each : (first : ℕ) (lengths run : List ℕ) → number_of_block (answer_of_sealing S key first lengths run) ≡ 0
+      → (i : ℕ) → i < block_count run → number_of_block (answer_of_block_sealing S key (payload_at lengths run i) (first + i) (part i run)) ≡ 0
+  pub sealed_one_by_one : (pack first : ℕ) (lengths run : List ℕ) → Bytes run → number_of_block (answer_of_sealing S key first lengths run) ≡ 0
       → (order : List ℕ) → OrderOf (block_count run) order → one_by_one (sealing_call S key pack first lengths) order run ≡ sealed_run S key pack first lengths run
   -- Where opening a run is done, each one-block call is and returns the length that stands in the list, and the run is what they leave.
   pub opened_each : (pack first : ℕ) (lengths run : List ℕ) → Bytes run → number_of (answer_of S key pack first lengths run) ≡ 0 → (i : ℕ) → i < block_count run

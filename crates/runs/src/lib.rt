@@ -2,7 +2,8 @@
 #![tactic(auto)]
 
 mod opening;
+mod places;
 mod sealing;
 
-pub use opening::{RunOpened, open_run};
+pub use opening::{NotOpened, open_run};
 pub use sealing::seal_run;

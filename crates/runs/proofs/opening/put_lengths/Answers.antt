@@ -1,5 +1,5 @@
 -- What is written and what is left to do make the list: one length goes from the one to the other at each turn.
-use Prim.Native.Nat.{◌+◌, ◌*◌, ◌≤◌, ◌<◌}
+use Prim.Native.Nat.{◌+◌, ◌*◌, ◌≤◌}
 use mathlib.Core.Path.{refl, ◌∙◌}
 use native.Mathlib.Omega.{arith}
 use lib.ListN.{length, length-set}
@@ -12,13 +12,13 @@ use Rattle.runs.proofs.opening.put_lengths.Goals as goal
 
 pub loop-i-init : goal.loop-i-init
 unfolding blockwise
-loop-i-init c = (refl, refl, omega arith)
+loop-i-init c = (refl, refl)
 
 pub overflow_cast-lengths : goal.overflow_cast-lengths
 overflow_cast-lengths c =
     let l = c.loop-i in
     let run = c.args.run.now in
-    let room : 512 * l.i + 512 ≤ length run = omega (arith, c.requires, l.invariant.1, c.loop-i-test.true) in
+    let room : 512 * l.i + 512 ≤ length run = omega (arith, c.requires, c.loop-i-test.true) in
     let read = used-at l.i run (λ k. (c.shared_slice_known-1.given k).fits) room (lent_part l.i run) in
     omega (arith, c.get.ensures, read.1)
 
@@ -26,10 +26,8 @@ pub loop-i-preserved : goal.loop-i-preserved
 loop-i-preserved c =
     let l = c.loop-i in
     let run = c.args.run.now in
-    let below : l.i < length c.args.lengths.now = omega (arith, l.invariant.1, c.loop-i-test.true) in
-    let room : 512 * l.i + 512 ≤ length run = omega (arith, c.requires, below) in
+    let room : 512 * l.i + 512 ≤ length run = omega (arith, c.requires, c.loop-i-test.true) in
     let read = used-at l.i run (λ k. (c.shared_slice_known-1.given k).fits) room (lent_part l.i run) in (
-      filled_next used run c.args.lengths.now l.i below l.invariant.0 (c.get.ensures ∙ read.0),
+      filled_next used run c.args.lengths.now l.i c.loop-i-test.true l.invariant.0 (c.get.ensures ∙ read.0),
       length-set l.lengths l.i c.get.result ∙ l.invariant.1,
-      rw length-set (omega (arith, c.loop-i-test.true)),
     )

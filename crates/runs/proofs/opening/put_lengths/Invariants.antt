@@ -1,5 +1,4 @@
 -- What is written and what is left to do make the list: one length goes from the one to the other at each turn.
-use Prim.Native.Nat.{◌-◌, ◌≤◌}
 use mathlib.Core.Path.{◌≡◌}
 use mathlib.Core.List.{[], ◌∷◌, ◌++◌}
 use lib.ListN.{length, drop}
@@ -8,7 +7,4 @@ use Rattle.runs.specs.Run.{blockwise}
 use Rattle.runs.proofs.opening.put_lengths.Given as goal
 
 abbrev pub invariant-loop-i : goal.invariant-loop-i
-invariant-loop-i l = (l.lengths ≡ blockwise (λ j B. used B ∷ []) l.i l.run ++ drop l.i l.initial.lengths) × (length l.lengths ≡ length l.initial.lengths) × (l.i ≤ length l.lengths)
-
-abbrev pub decreases-loop-i : goal.decreases-loop-i
-decreases-loop-i l = length l.lengths - l.i
+invariant-loop-i l = (l.lengths ≡ blockwise (λ j B. used B ∷ []) l.i l.run ++ drop l.i l.initial.lengths) × (length l.lengths ≡ length l.initial.lengths)

@@ -12,10 +12,11 @@ use Rattle.runs.proofs.sealing.seal_block.Goals as goal
 
 pub returns : goal.returns
 unfolding sealed_by on_block
-returns c =
+returns g c =
     let a = c.args in
+    let p = a.position in
     let B = a.block.now in
     let payload = take a.u B in
     let short : length payload ≤ 496 = rw length-take (omega (arith, c.requires.1)) in
-    let plain : c.complete.new.block ≡ plain_block payload a.pack a.place = rw (c.complete.ensures, both_fit payload B short c.requires.0) in
-    rw (c.encipher.ensures.block_after, plain, eq-eqb _ 512 (length_plain payload a.pack a.place short))
+    let plain : c.complete.new.block ≡ plain_block payload p.pack p.place = rw (c.complete.ensures, both_fit payload B short c.requires.0) in
+    rw (c.encipher.ensures.block_after, plain, eq-eqb _ 512 (length_plain payload p.pack p.place short))
