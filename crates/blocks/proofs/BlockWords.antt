@@ -1,7 +1,7 @@
 -- A block by its four words, and the words as they stand in a string.
 -- Assumes nothing.
 use Prim.Native.Nat.{ℕ, suc, ◌+◌, ◌*◌, ◌/◌, ◌%◌, ◌^◌, ◌<◌}
-use mathlib.Core.Path.{◌≡◌, refl, sym, ◌∙◌}
+use mathlib.Core.Path.{◌≡◌, refl, sym, ap, ◌∙◌}
 use mathlib.Core.List.{List, [], ◌∷◌, ◌++◌}
 use native.Mathlib.Nat.{add-zero, add-suc, suc-add, add_assoc, mod-eq_of_lt, div-add-mod'}
 use native.Mathlib.Numerals.{add-one}
@@ -9,9 +9,10 @@ use native.Mathlib.Omega.{arith}
 use lib.Arith.{digits_lt}
 use lib.ListN.{length, get_or, drop, set, length-append}
 use lib.Seq.{get_or-drop, drop-drop, take_all}
+use Rattle.std.specs.Int.{w32, to_be_bytes, from_be_bytes}
 use Rattle.strings.specs.Bytes.{Below, Bytes, OfLength, number, bytes}
 use Rattle.strings.specs.Inner.{padded, overwrite}
-use Rattle.strings.proofs.Bytes.{below_drop, length-bytes, number-bytes, bytes-number, length-padded, padded_below, padded_add, padded-take}
+use Rattle.strings.proofs.Bytes.{below_drop, length-bytes, number-bytes, bytes-number, length-padded, padded_below, padded_add, padded-take, be_bytes, be_number}
 use Rattle.strings.proofs.Table.{table}
 use Rattle.strings.proofs.Place.{bytes_join, overwrite_nil, overwrite_cons}
 use Rattle.blocks.specs.Inner.{of_words}
@@ -51,6 +52,10 @@ pub four_bytes : (at : ℕ) (s : List ℕ) → get_or s at 0 ∷ get_or s (at + 
 unfolding padded
 four_bytes at s = simp (get_or-drop, drop-drop, add-zero, add_assoc)
 
+pub word_there : (at : ℕ) (s : List ℕ)
+    → from_be_bytes w32 (get_or s at 0 ∷ get_or s (at + 1) 0 ∷ get_or s (at + 2) 0 ∷ get_or s (at + 3) 0 ∷ []) ≡ number (padded 4 (drop at s))
+word_there at s = be_number (get_or s at 0 ∷ get_or s (at + 1) 0 ∷ get_or s (at + 2) 0 ∷ get_or s (at + 3) 0 ∷ []) ∙ ap number (four_bytes at s)
+
 word_read : (at : ℕ) (s : List ℕ) → Bytes s → bytes 4 (number (padded 4 (drop at s))) ≡ padded 4 (drop at s)
 word_read at s h = rw length-padded at (bytes-number (padded 4 (drop at s)) (padded_below 4 (drop at s) (below_drop at s h)))
 
@@ -63,10 +68,14 @@ words_read at s h =
     (simp (padded_add 4 4, drop-drop, add_assoc))
 
 -- Words that are written: four bytes each, the last first, and four of them.
-pub word_written : (at w : ℕ) (s : List ℕ)
+word_set : (at w : ℕ) (s : List ℕ)
     → set (set (set (set s (at + 3) (get_or (bytes 4 w) 3 0)) (at + 2) (get_or (bytes 4 w) 2 0)) (at + 1) (get_or (bytes 4 w) 1 0)) at (get_or (bytes 4 w) 0 0) ≡ overwrite at (bytes 4 w) s
 unfolding bytes
-word_written at w s = simp (overwrite_cons, overwrite_nil, ← add-one, add_assoc)
+word_set at w s = simp (overwrite_cons, overwrite_nil, ← add-one, add_assoc)
+
+pub word_written : (at w : ℕ) (s b : List ℕ) → b ≡ to_be_bytes w32 w
+    → set (set (set (set s (at + 3) (get_or b 3 0)) (at + 2) (get_or b 2 0)) (at + 1) (get_or b 1 0)) at (get_or b 0 0) ≡ overwrite at (bytes 4 w) s
+word_written at w s b e = rw (e ∙ be_bytes w) (word_set at w s)
 
 overwrite_back : (i : ℕ) (t u s : List ℕ) → overwrite i (t ++ u) s ≡ overwrite i t (overwrite (i + length t) u s)
 overwrite_back i [] u s = rw (add-zero, overwrite_nil i (overwrite i u s))

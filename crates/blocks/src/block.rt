@@ -1,37 +1,23 @@
 // A block of 16 bytes as two halves, its first byte the highest of `hi`.
-ghost use Rattle.std.specs.Prelude.{◌+◌, ◌≤◌, ◌<◌, ◌≡◌, true, false, length, drop};
+ghost use Rattle.std.specs.Prelude.{ℕ, ◌+◌, ◌*◌, ◌^◌, ◌≤◌, ◌<◌, ◌≡◌, true, false, length, drop, slice_index_or};
 ghost use Rattle.strings.specs.Xor.{◌⊕◌};
 ghost use Rattle.strings.specs.Bytes.{number, bytes};
 ghost use Rattle.strings.specs.Inner.{padded, overwrite};
 ghost use Rattle.blocks.specs.Blocks.{bin, first_block};
 ghost use Rattle.blocks.specs.Inner.{of_words, value};
+ghost use Rattle.blocks.specs.declared.block.Block.{Block};
 
-#[derive(Clone, Copy)]
+#[derive(Clone, Copy, Debug, PartialEq, Eq)]
 pub struct Block {
     pub hi: u64,
     pub lo: u64,
-}
-
-// Two blocks, one after the other.
-#[derive(Clone, Copy)]
-pub struct Pair {
-    pub first: Block,
-    pub second: Block,
-}
-
-// Three blocks, one after the other.
-#[derive(Clone, Copy)]
-pub struct Three {
-    pub first: Block,
-    pub second: Block,
-    pub third: Block,
 }
 
 // Whether a string of that length has 16 bytes from place `at` on. That may be any number, for no sum is made that could be too large.
 fn whole(length: usize, at: usize) -> bool
     ensures { (result ≡ true → at + 16 ≤ length) × (result ≡ false → length < at + 16) }
 {
-    at < length && length - at >= 16
+    length.saturating_sub(at) >= 16
 }
 
 // The word of the four bytes from place `at` on.
@@ -39,7 +25,7 @@ fn word_at(s: &[u8], at: usize) -> u32
     requires { at + 4 ≤ length s.now }
     ensures { result ≡ number (padded 4 (drop at s.now)) }
 {
-    strings::number::word(s[at], s[at + 1], s[at + 2], s[at + 3])
+    u32::from_be_bytes([s[at], s[at + 1], s[at + 2], s[at + 3]])
 }
 
 // The words of the 16 bytes from place `at` on.
@@ -60,10 +46,11 @@ fn put_word(out: &mut [u8], at: usize, w: u32)
     requires { at + 4 ≤ length out.old }
     ensures { out.new ≡ overwrite at (bytes 4 w) out.old }
 {
-    out[at + 3] = strings::number::byte(w, 3);
-    out[at + 2] = strings::number::byte(w, 2);
-    out[at + 1] = strings::number::byte(w, 1);
-    out[at] = strings::number::byte(w, 0);
+    let [a, b, c, d] = w.to_be_bytes();
+    out[at + 3] = d;
+    out[at + 2] = c;
+    out[at + 1] = b;
+    out[at] = a;
 }
 
 // Writes four words in the 16 bytes from place `at` on, the last first, so that the compiler joins the most stores.
@@ -162,50 +149,21 @@ impl Block {
     }
 }
 
-// The first two blocks of a string, as `read` reads them. Where both are whole, they are read with one test for the two.
-pub fn read_two(s: &[u8]) -> Pair
-    ensures first_value { value result.first ≡ first_block s.now }
-    ensures second_value { value result.second ≡ first_block (drop 16 s.now) }
+// The first N blocks of a string, as `read` reads them. Where all are whole, they are read with one test for all. Only parts of `s` are lent on: where `s` itself is, the
+// compiler keeps its address and length in memory.
+pub fn read_all<const N: usize>(s: &[u8]) -> [Block; N]
+    requires { 16 * N < 2 ^ 64 }
+    ensures { (i : ℕ) → (none : Block) → i < N → value (slice_index_or result i none) ≡ first_block (drop (16 * i) s.now) }
 {
-    if s.len() < 32 {
-        return Pair {
-            first: Block::read(s, 0),
-            second: Block::read(s, 16),
-        };
+    let mut all = [Block::ZERO; N];
+    if s.len() < 16 * N {
+        for i in 0..N {
+            all[i] = Block::read(&s[0..], 16 * i);
+        }
+        return all;
     }
-    Pair {
-        first: Block::from_words(words_at(s, 0)),
-        second: Block::from_words(words_at(s, 16)),
+    for i in 0..N {
+        all[i] = Block::from_words(words_at(s, 16 * i));
     }
-}
-
-// The first three blocks of a string, as `read` reads them. Where all are whole, they are read with one test for the three. Only parts of `s` are lent on, here and below:
-// where `s` itself is, the compiler keeps its address and length in memory.
-pub fn read_three(s: &[u8]) -> Three
-    ensures first_of_three { value result.first ≡ first_block s.now }
-    ensures second_of_three { value result.second ≡ first_block (drop 16 s.now) }
-    ensures third_of_three { value result.third ≡ first_block (drop 32 s.now) }
-{
-    if s.len() < 48 {
-        return Three {
-            first: Block::read(&s[0..], 0),
-            second: Block::read(&s[0..], 16),
-            third: Block::read(&s[0..], 32),
-        };
-    }
-    Three {
-        first: Block::from_words(words_at(s, 0)),
-        second: Block::from_words(words_at(s, 16)),
-        third: Block::from_words(words_at(s, 32)),
-    }
-}
-
-// The first block of a string, as `read` reads it. Like the two above it has one caller, so that the compiler puts it there: what `read` hands back goes through memory.
-pub fn read_first(s: &[u8]) -> Block
-    ensures { value result ≡ first_block s.now }
-{
-    if s.len() < 16 {
-        return Block::read(&s[0..], 0);
-    }
-    Block::from_words(words_at(s, 0))
+    all
 }

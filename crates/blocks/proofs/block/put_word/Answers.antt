@@ -5,5 +5,4 @@ use Rattle.blocks.proofs.block.put_word.Goals as goal
 pub returns : goal.returns
 returns c =
     let a = c.args in
-    rw (c.byte.ensures, c.byte-2.ensures, c.byte-3.ensures, c.byte-4.ensures)
-    (word_written a.at a.w a.out.now)
+    word_written a.at a.w a.out.now c.to_be_bytes.result c.to_be_bytes.ensures

@@ -1,10 +1,7 @@
 -- Its bytes are those of the string.
-use mathlib.Core.Path.{ap, ◌∙◌}
-use Rattle.strings.specs.Bytes.{number}
-use Rattle.blocks.proofs.BlockWords.{four_bytes}
+use Rattle.std.proofs.Common.{◌∙◌}
+use Rattle.blocks.proofs.BlockWords.{word_there}
 use Rattle.blocks.proofs.block.word_at.Goals as goal
 
 pub returns : goal.returns
-returns c =
-    let a = c.args in
-    c.word.ensures ∙ ap number (four_bytes a.at a.s.now)
+returns c = c.from_be_bytes.ensures ∙ word_there c.args.at c.args.s.now
