@@ -3,81 +3,70 @@
 // read, handed over and written.
 #![tactic(auto)]
 
-ghost use Rattle.std.specs.Prelude.{◌≤◌, length};
-
 use line::{LONGEST, ROOM};
+use std::fmt;
 use std::io::Read;
-use text::part::Kept;
+use text::part::LineBuffer;
 
 // The most bytes that are read at a time.
 const CHUNK: usize = 65536;
 
-// How the lines of a chunk were answered: with this kept of the line under way, or not, since
-// standard output takes no more.
+// What the program could not do.
 #[derive(Clone, Copy)]
-enum Went {
-    On(Kept),
-    Closed,
+enum Failure {
+    Read,
+    Write,
+}
+
+impl fmt::Display for Failure {
+    fn fmt<W: fmt::Write>(&self, f: &mut fmt::Formatter<W>) -> fmt::Result {
+        f.write_str(match self {
+            Failure::Read => "cannot read standard input",
+            Failure::Write => "cannot write to standard output",
+        })
+    }
+}
+
+// Says on standard error what failed. Where that cannot be written either, nobody is told.
+fn main(rt: HostRuntime) {
+    if let Err(failure) = answer_all(&rt, &mut rt.stdin()) {
+        let _ = eprintln!(rt; "boardline: {failure}");
+    }
 }
 
 // A proved loop has to end, and nothing says that the input does. So the loop has a number of turns
 // that no run uses up.
-fn main(rt: HostRuntime) {
-    let mut line = [0u8; LONGEST];
+fn answer_all(rt: &impl Print, input: &mut impl Read) -> Result<(), Failure> {
+    let mut line = LineBuffer::new();
     let mut out = [0u8; ROOM];
     let mut chunk = [0u8; CHUNK];
-    let mut kept = Kept::Characters(0);
-    let mut input = rt.stdin();
     for _ in 0..u64::MAX {
-        let Ok(n) = input.read(&mut chunk) else {
-            complain(&rt, "boardline: cannot read standard input");
-            return;
-        };
+        let n = input.read(&mut chunk).or(Err(Failure::Read))?;
         if n == 0 {
             break;
         }
-        let Went::On(next) = answer_lines(&rt, &mut line, kept, &chunk[..n], &mut out) else {
-            return;
-        };
-        kept = next;
+        answer_lines(rt, &mut line, &chunk[..n], &mut out)?;
     }
-    let written = line::last(&line, kept, &mut out);
-    write(&rt, &out, written);
+    let written = line::last(&line, &mut out);
+    write(rt, &out[..written])
 }
 
 // Answers each line that ends in the chunk, and goes on with the line under way.
 fn answer_lines(
-    rt: &(impl Print + Eprint),
-    line: &mut [u8; LONGEST],
-    kept: Kept,
+    rt: &impl Print,
+    line: &mut LineBuffer<LONGEST>,
     chunk: &[u8],
     out: &mut [u8; ROOM],
-) -> Went {
-    let mut kept = kept;
-    let mut at = 0;
-    while at < chunk.len() {
-        let step = line::next(line, kept, &chunk[at..], out);
-        if !write(rt, out, step.written) {
-            return Went::Closed;
-        }
-        kept = step.kept;
-        at += step.used;
+) -> Result<(), Failure> {
+    let mut rest = chunk;
+    while !rest.is_empty() {
+        let step = line::next(line, rest, out);
+        write(rt, &out[..step.written])?;
+        rest = &rest[step.used..];
     }
-    Went::On(kept)
+    Ok(())
 }
 
-// Writes the first n bytes, or says on standard error that it cannot.
-fn write(rt: &(impl Print + Eprint), out: &[u8; ROOM], n: usize) -> bool
-    requires { n ≤ length out.now }
-{
-    if rt.write_all(&out[..n]).is_ok() {
-        return true;
-    }
-    complain(rt, "boardline: cannot write to standard output");
-    false
-}
-
-// Says on standard error what failed. Where that cannot be written either, nobody is told.
-fn complain(rt: &impl Eprint, what: &str) {
-    let _ = rt.eprintln(what);
+fn write(rt: &impl Print, answer: &[u8]) -> Result<(), Failure> {
+    rt.write_all(answer).or(Err(Failure::Write))
 }

@@ -4,4 +4,5 @@ pub mod Written
 pub mod Requests
 pub mod Chunks
 pub mod Used
+pub mod Calls
 pub mod Theorems

@@ -4,20 +4,25 @@ use mathlib.Core.Path.{◌≡◌, refl, sym, ◌∙◌}
 use mathlib.Core.Logic.{◌⊎◌, inl, inr, ⊎_elim}
 use mathlib.Core.Bool.{Bool, true, false, cond, ◌&&◌, and-false}
 use mathlib.Core.List.{List, [], ◌∷◌, ◌++◌}
-use Prim.Native.Nat.{ℕ, suc, ◌+◌, ◌-◌, ◌*◌, ◌/◌, ◌≤◌, ◌<◌}
+use Prim.Native.Nat.{ℕ, suc, ◌+◌, ◌*◌, ◌/◌, ◌≤◌, ◌<◌}
 use native.Mathlib.Nat.{not-suc-le-zero, le_of_suc-le-suc}
 use native.Mathlib.Omega.{arith}
-use lib.ListN.{length, take, drop, get_or}
+use lib.ListN.{length, drop, get_or}
 use lib.Dec.{ltb, eqb}
 use borrow.Author.Tests.{ltb-true, ltb-false, eqb-true, lt-leb, le-leb, eq-eqb, ne_eqb}
-use Rattle.text.specs.Hex.{is_digit, hex, is_hex, unhex}
+use Rattle.text.specs.Hex.{is_digit, is_hex, unhex}
 use Rattle.text.specs.Part.{split_from, split}
 use Rattle.text.specs.Inner.{before, field_of, decoded_of, decoded_in}
-use Rattle.text.specs.declared.hex.Decoded.{Decoded}
-use Rattle.text.specs.declared.hex.Decoded.TheVariants.{Bytes, Refused}
-use Rattle.text.proofs.Digits.{even_digits, split_digits, hex-unhex, unhex-hex, is_hex-hex, decoded_is, decoded_not, decoded_whole, field_is, field_not}
-use Rattle.strings.proofs.Place.{part_behind}
+use Rattle.std.specs.Prelude.{None, Some}
+use Rattle.text.proofs.Digits.{even_digits, split_digits, decoded_not, decoded_whole, field_is, field_not}
 use Rattle.text.proofs.Parts.{split_none, split_first}
+use Rattle.std.specs.Prelude.{Result, Ok, Err}
+use Rattle.line.specs.Inner.{character, command_of, Field, Answered}
+use Rattle.line.specs.declared.answering.NoResult.{NoResult}
+use Rattle.line.specs.declared.answering.NoResult.TheVariants.{NotUnderstood}
+use Rattle.line.specs.declared.answering.Command.{Command}
+use Rattle.line.specs.declared.answering.Command.TheVariants.{Encipher, Decipher}
+use Rattle.line.specs.Line as Line
 use Rattle.line.specs.Line.{Request, Unknown, commanded, requested, request_of, refusal, reply_to, answer}
 
 -- ---- lines that are not understood
@@ -68,33 +73,31 @@ follows s = by (ltb (length (before 32 s)) (length s)) refl
     by true e = inl (ltb-true _ _ e)
     by false e = inr (ltb-false _ _ e)
 
--- the decoded bytes, as they are lent on
-lent : (f out left : List ℕ) (a : Decoded) (n : ℕ) → a ≡ Bytes n → n ≡ length f / 2 → left ≡ decoded_in a f out → take (n - 0) left ≡ unhex f
-unfolding decoded_in
-lent f out left a n told e l =
-    let n-0 : n - 0 ≡ length f / 2 = omega arith in
-    rw (n-0, l, told, e) (decoded_whole f out)
-
 -- ---- the key and the tweak, behind which a space and further fields stand
 
-pub field_refused : (c : List ℕ) (ps : List (List ℕ)) (s out : List ℕ) → length ps ≤ 1 → field_of 32 s out ≡ Refused → length s / 2 ≤ length out
+pub field_refused : (c : List ℕ) (ps : List (List ℕ)) (s out : List ℕ) → length ps ≤ 1 → field_of 32 s out ≡ None → length s / 2 ≤ length out
     → requested (c ∷ ps ++ split 32 s) ≡ Unknown
 field_refused c ps s out l e room =
     ⊎_elim (λ h. ⊎_elim (λ n. absurd (omega arith)) (λ n. rw (split_first 32 [] s h) (not_hex c ps _ (before 32 s) n)) (field_not 32 s out e room))
     (λ h. rw (split_none 32 [] s h) (few c ps s l)) (follows s)
 
--- Its bytes, and what stands behind its space, as both are lent on: their digits are the field again.
-pub field_read : (s out left : List ℕ) (a : Decoded) (n : ℕ) → a ≡ field_of 32 s out → a ≡ Bytes n → left ≡ decoded_in a (before 32 s) out
-    → split 32 s ≡ hex (take (n - 0) left) ∷ split 32 (take (length s - (2 * n + 1)) (drop (2 * n + 1) s))
-field_read s out left a n e told l =
-    let f = field_is 32 s out n (sym e ∙ told) in
+pub field_read : (s out left : List ℕ) (n : ℕ) → field_of 32 s out ≡ Some n → left ≡ decoded_in (Some n) (before 32 s) out → length left ≡ length out → Field s n left
+unfolding decoded_in
+field_read s out left n e l same =
+    let f = field_is 32 s out n e in
     let half : n ≡ length (before 32 s) / 2 = omega arith in
     let behind : suc (length (before 32 s)) ≡ 2 * n + 1 = omega arith in
-    rw (lent (before 32 s) out left a n told half l, part_behind (2 * n + 1) s, hex-unhex (before 32 s) f.0, ← behind) (split_first 32 [] s (omega arith))
+    record {
+      parts = rw (← behind) (split_first 32 [] s (omega arith));
+      within = omega arith;
+      digits = f.0;
+      decoded = rw (l, half) (decoded_whole (before 32 s) out);
+      fits = omega arith;
+    }
 
 -- ---- the message, behind which nothing stands
 
-pub message_refused : (c : List ℕ) (a b s out : List ℕ) → decoded_of s out ≡ Refused → length s / 2 ≤ length out → requested (c ∷ a ∷ b ∷ split 32 s) ≡ Unknown
+pub message_refused : (c : List ℕ) (a b s out : List ℕ) → decoded_of s out ≡ None → length s / 2 ≤ length out → requested (c ∷ a ∷ b ∷ split 32 s) ≡ Unknown
 message_refused c a b s out e room =
     ⊎_elim (λ h. rw (split_first 32 [] s h) (many c a b _ _ (parts 32 [] _)))
     (λ h. rw (split_none 32 [] s h) (not_hex c (a ∷ b ∷ []) [] s (decoded_not s out e room))) (follows s)
@@ -103,18 +106,34 @@ space : is_digit 32 ≡ false
 unfolding is_digit
 space = refl
 
-pub message_read : (c : List ℕ) (key tweak s out left : List ℕ) (a : Decoded) (n : ℕ) → ((i : ℕ) → get_or key i 0 < 256) → ((i : ℕ) → get_or tweak i 0 < 256)
-    → a ≡ decoded_of s out → a ≡ Bytes n → left ≡ decoded_in a s out
-    → requested (c ∷ hex key ∷ hex tweak ∷ split 32 s) ≡ commanded c key tweak (take (n - 0) left)
+pub message_read : (c a b s : List ℕ) → is_hex a ≡ true → is_hex b ≡ true → is_hex s ≡ true → requested (c ∷ a ∷ b ∷ split 32 s) ≡ commanded c (unhex a) (unhex b) (unhex s)
 unfolding requested
-message_read c key tweak s out left a n k t e told l =
-    let d = decoded_is s out n (sym e ∙ told) in
-    rw (split_digits 32 s space (even_digits s d.0).1, is_hex-hex key k, is_hex-hex tweak t, d.0, unhex-hex key k, unhex-hex tweak t, lent s out left a n told d.1 l) refl
+message_read c a b s h k l = rw (split_digits 32 s space (even_digits s l).1, h, k, l) refl
+
+-- ---- the command
+
+pub command_none : (c : ℕ) (why : NoResult) → command_of c ≡ Err why → (why ≡ NotUnderstood) × ((key tweak message : List ℕ) → commanded (c ∷ []) key tweak message ≡ Unknown)
+unfolding commanded
+command_none c why = by (eqb c 69) (eqb c 68)
+  where
+    by : (t u : Bool) → cond t (Ok Encipher) (cond u (Ok Decipher) (Err NotUnderstood)) ≡ Err why
+        → (why ≡ NotUnderstood) × ((key tweak message : List ℕ) → cond t (Line.Encipher key tweak message) (cond u (Line.Decipher key tweak message) Unknown) ≡ Unknown)
+    by true u e = let z : ◌≡◌ {A = ℕ} 0 1 = cc in absurd (omega arith)
+    by false true e = let z : ◌≡◌ {A = ℕ} 0 1 = cc in absurd (omega arith)
+    by false false e = (cc, λ key tweak message. refl)
+
+pub command_some : (c : ℕ) (command : Command) → command_of c ≡ Ok command → c ≡ character command
+command_some c command = by (eqb c 69) (eqb c 68) refl refl
+  where
+    by : (t u : Bool) → eqb c 69 ≡ t → eqb c 68 ≡ u → cond t (Ok Encipher) (cond u (Ok Decipher) (Err NotUnderstood)) ≡ Ok command → c ≡ character command
+    by true u e f h = let k : Encipher ≡ command = cc in rw (← k) (eqb-true c 69 e)
+    by false true e f h = let k : Decipher ≡ command = cc in rw (← k) (eqb-true c 68 f)
+    by false false e f h = let z : ◌≡◌ {A = ℕ} 0 1 = cc in absurd (omega arith)
 
 -- ---- the whole line
 
 -- a command that asks for nothing
-no_command : (c : List ℕ) (ps : List (List ℕ)) → ((key tweak message : List ℕ) → commanded c key tweak message ≡ Unknown) → requested (c ∷ ps) ≡ Unknown
+pub no_command : (c : List ℕ) (ps : List (List ℕ)) → ((key tweak message : List ℕ) → commanded c key tweak message ≡ Unknown) → requested (c ∷ ps) ≡ Unknown
 unfolding requested
 no_command c [] h = refl
 no_command c (a ∷ []) h = refl
@@ -171,10 +190,19 @@ line_fields (c ∷ []) h e = absurd (omega arith)
 line_fields (c ∷ d ∷ rest) h e =
     first c (d ∷ rest) _ (λ z. none (split 32 (d ∷ rest)) ∙ sym (no_command (c ∷ []) (split 32 rest) (λ k t m. rw z refl))) (rw (eq-eqb d 32 e) refl)
 
-pub answer_long : (line : List ℕ) → 8300 < length line → answer line ≡ refusal 9
-unfolding answer request_of reply_to
-answer_long line h = rw (lt-leb (length line) 8300 h) refl
+pub request_fields : (line : List ℕ) → length line ≤ 8300 → request_of line ≡ requested (split 32 line)
+unfolding request_of
+request_fields line h = rw (le-leb (length line) 8300 h) refl
 
-pub answer_fields : (line : List ℕ) → length line ≤ 8300 → answer line ≡ reply_to (requested (split 32 line))
-unfolding answer request_of
-answer_fields line h = rw (le-leb (length line) 8300 h) refl
+pub request_long : (line : List ℕ) → 8300 < length line → request_of line ≡ Unknown
+unfolding request_of
+request_long line h = rw (lt-leb (length line) 8300 h) refl
+
+-- what is not understood has number 9, and nothing is written
+pub not_understood : {request : Request} {result : Result ℕ NoResult} (out : List ℕ) → request ≡ Unknown → result ≡ Err NotUnderstood → Answered request result out out
+unfolding reply_to
+not_understood out e f = rw (e, f) (refl, refl)
+
+pub answer_long : (line : List ℕ) → 8300 < length line → answer line ≡ refusal 9
+unfolding answer reply_to
+answer_long line h = rw (request_long line h) refl

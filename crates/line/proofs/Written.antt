@@ -1,24 +1,27 @@
 -- An answer at the front of what was lent for it.
 -- Assumes nothing.
-use mathlib.Core.Path.{◌≡◌, refl, sym, ap, ◌∙◌}
+use mathlib.Core.Path.{◌≡◌, refl, sym, ◌∙◌}
 use mathlib.Core.List.{List, [], ◌∷◌, ◌++◌}
-use Prim.Native.Nat.{ℕ, zero, suc, ◌+◌, ◌*◌, ◌/◌, ◌%◌, ◌≤◌, ◌<◌, min}
-use native.Mathlib.Nat.{not-suc-le-zero, zero-add}
+use Prim.Native.Nat.{ℕ, ◌+◌, ◌*◌, ◌/◌, ◌%◌, ◌≤◌, ◌<◌, min}
+use native.Mathlib.Nat.{zero-add}
 use native.Mathlib.Omega.{arith}
 use lib.ListN.{length, take, drop, length-append}
 use lib.Seq.{take_all, take_at}
-use borrow.Author.Tests.{lt-ltb, le-ltb}
+use borrow.Author.Tests.{ltb-true, ltb-false}
+use lib.Dec.{ltb}
+use mathlib.Core.Bool.{Bool, true, false, cond}
+use Rattle.std.proofs.lemmas.Fmt.{decimal_digit, decimal_step}
+use Rattle.strings.proofs.Refusals.{refusal_range}
 use Rattle.text.specs.Hex.{hex}
 use Rattle.text.specs.Inner.{fitting, encoded_in}
 use Rattle.text.proofs.Digits.{length-hex}
-use Rattle.strings.specs.Call.{number_of, left_by}
-use Rattle.strings.specs.declared.refusal.Answer.{Answer}
-use Rattle.strings.proofs.Refusals.{number_range}
 use Rattle.strings.specs.Inner.{overwrite}
 use Rattle.strings.proofs.Place.{overwrite_head, overwrite-append}
-use Rattle.hch.specs.Call.{answer_of}
-use Rattle.hch.proofs.Call.{admitted}
-use Rattle.line.specs.Line.{decimal, refusal, reply, Written}
+use Rattle.std.specs.Fmt.{decimal as print}
+use Rattle.line.specs.Line.{last_digits, decimal, refusal, Written}
+use Rattle.line.specs.Inner.{number_of}
+use Rattle.line.specs.declared.answering.NoResult.{NoResult}
+use Rattle.line.specs.declared.answering.NoResult.TheVariants.{NotUnderstood, Refused}
 
 -- Bytes that were written at the front of `out`, where there is room for all of them.
 pub written_front : {out left : List ℕ} {count : ℕ} (bytes : List ℕ) → count ≡ length bytes → left ≡ overwrite 0 bytes out → length bytes ≤ length out
@@ -47,50 +50,53 @@ encoded_front work out h =
       rw (all, take_all (length work) work (omega arith), ← long) (sym (overwrite_head (hex work) out (omega arith))),
     )
 
--- ---- a number below 100 in decimal
+-- ---- a number in decimal
 
-pub one_digit : (n : ℕ) → n < 10 → (48 + n) ∷ [] ≡ decimal n
+digits_short : (n : ℕ) → length (decimal n) ≤ 2
 unfolding decimal
-one_digit n h =
-    let same : n % 10 ≡ n = omega arith in
-    rw (lt-ltb n 10 h, same) refl
+digits_short n = by (ltb n 10)
+  where
+    by : (t : Bool) → length (last_digits (cond t 1 2) n) ≤ 2
+    by true = omega arith
+    by false = omega arith
 
-pub two_digits : (n : ℕ) → 10 ≤ n → n < 100 → (48 + n / 10) ∷ (48 + n % 10) ∷ [] ≡ decimal n
+-- as the library prints it
+pub printed : (n : ℕ) → n < 100 → print n ≡ decimal n
 unfolding decimal
-two_digits n l h =
-    let same : n / 10 % 10 ≡ n / 10 = omega arith in
-    rw (le-ltb n 10 l, same) refl
+printed n h = by (ltb n 10) refl
+  where
+    by : (t : Bool) → ltb n 10 ≡ t → print n ≡ last_digits (cond t 1 2) n
+    by true e =
+        let same : n % 10 ≡ n = omega (arith, ltb-true n 10 e) in
+        rw same (decimal_digit n (ltb-true n 10 e))
+    by false e =
+        let same : n / 10 % 10 ≡ n / 10 = omega arith in
+        rw (same, decimal_step n (ltb-false n 10 e) (omega arith), decimal_digit (n / 10) (omega arith)) refl
 
--- ---- replies
+pub number_short : (why : NoResult) → number_of why < 100
+number_short NotUnderstood = omega arith
+number_short (Refused why) = omega (arith, (refusal_range why).1)
 
--- Bytes that are equal to those that were written are written.
-pub written_as : {a b out left : List ℕ} {count : ℕ} → a ≡ b → Written a count out left → Written b count out left
-written_as e w = rw e at w
+-- `no `, the digits and a line feed, each behind the one before
+pub refusal_front : (n : ℕ) (out : List ℕ) {digits first second third : List ℕ} → digits ≡ decimal n → length out ≡ 8193
+    → first ≡ overwrite 0 (110 ∷ 111 ∷ 32 ∷ []) out → second ≡ overwrite 3 digits first → third ≡ overwrite (3 + length digits) (10 ∷ []) second
+    → Written (refusal n) (4 + length digits) out third
+unfolding refusal
+refusal_front n out d room f s t =
+    let no : List ℕ = 110 ∷ 111 ∷ 32 ∷ [] in
+    let long : length (no ++ decimal n) ≡ 3 + length (decimal n) = length-append no (decimal n) in
+    let all : length ((no ++ decimal n) ++ 10 ∷ []) ≡ 4 + length (decimal n) = rw (length-append (no ++ decimal n), long) (omega arith) in
+    rw d
+    (written_front (refusal n) (sym all)
+    (rw (t, s, f, d, front_more no (decimal n) out, front_more (no ++ decimal n) (10 ∷ []) out (sym long))) (omega (arith, digits_short n)))
 
-pub reply_done : (n : ℕ) (work : List ℕ) → n ≤ 0 → hex work ++ 10 ∷ [] ≡ reply n work
-unfolding reply
-reply_done zero work h = refl
-reply_done (suc n) work h = absurd (not-suc-le-zero h)
+-- ---- what a call left
 
-pub reply_refused : (n : ℕ) (work : List ℕ) → 0 < n → refusal n ≡ reply n work
-unfolding reply
-reply_refused zero work h = absurd (not-suc-le-zero h)
-reply_refused (suc n) work h = refl
-
--- What a call left is written where it was done, and is its work then.
-left_or_not : (n : ℕ) (work lent : List ℕ) → reply n (left_by n work lent) ≡ reply n work
-unfolding reply
-left_or_not zero work lent = refl
-left_or_not (suc n) work lent = refl
-
-pub reply_called : (a a' : Answer) (n : ℕ) (left work lent : List ℕ) → a ≡ a' → n ≡ number_of a → left ≡ left_by (number_of a) work lent
-    → reply n left ≡ reply (number_of a') work
-reply_called a a' n left work lent same e l = rw (l, e, left_or_not (number_of a) work lent, same) refl
-
--- Its number has at most two digits, and only a message of at most 4,096 bytes has number 0.
-pub call_fits : (key tweak message left : List ℕ) (a : Answer) (n : ℕ) → a ≡ answer_of key tweak message → n ≡ number_of a → length left ≡ length message
-    → (n < 100) × (n ≡ 0 → length left ≤ 4096)
-call_fits key tweak message left a n e number same = (
-  rw number (number_range a),
-  λ z. rw same (admitted key tweak message (ap number_of (sym e) ∙ (sym number ∙ z))).at_most,
-)
+-- its digits and a line feed
+pub result_front : (n : ℕ) (work out : List ℕ) {first second : List ℕ} → length work ≤ 4096 → length out ≡ 8193
+    → n ≡ 2 * fitting work out → first ≡ encoded_in work out → second ≡ overwrite n (10 ∷ []) first → Written (hex work ++ 10 ∷ []) (n + 1) out second
+result_front n work out h room e f s =
+    let front = encoded_front work out (omega arith) in
+    let k : n ≡ length (hex work) = e ∙ front.0 in
+    let all : n + 1 ≡ length (hex work ++ 10 ∷ []) = rw (length-append (hex work), k) in
+    written_front (hex work ++ 10 ∷ []) all (rw (s, f, front.1) (front_more (hex work) (10 ∷ []) out k)) (omega (arith, length-hex work))

@@ -1,9 +1,7 @@
 -- A whole input and its answers, and an input that arrives in chunks. A line feed is 10.
-use Rattle.std.specs.Prelude.{ℕ, zero, suc, take}
+use Rattle.std.specs.Prelude.{ℕ, zero, suc, Option, None, Some, take}
 use mathlib.Core.List.{List, [], ◌∷◌, ◌++◌, flat_map}
 use Rattle.text.specs.Part.{split}
-use Rattle.text.specs.declared.part.Kept.{Kept}
-use Rattle.text.specs.declared.part.Kept.TheVariants.{Characters, TooLong}
 use Rattle.line.specs.Line.{answer}
 use Rattle.line.specs.Inner.{kept_answer, Stepped}
 use Rattle.line.specs.declared.input.Step.{Step}
@@ -34,14 +32,14 @@ answers_so_far input = flat_map answer (ended_of (split 10 input))
 
 -- A run of calls of `next` from the beginning, each on any bytes at all and each as its contract, `Stepped`, has it: the input that they have used up,
 -- what they have written, and what is kept of the line under way. `line₀` may hold any bytes.
-pub data Run (line₀ : List ℕ) : (input written line : List ℕ) → Kept → Type 0 where
-  begin : Run line₀ [] [] line₀ (Characters 0)
-  call : {input written line rest out line' out' : List ℕ} {kept : Kept} {step : Step} → Run line₀ input written line kept
-      → Stepped line kept rest out step line' out'
-      → Run line₀ (input ++ take step.used rest) (written ++ take step.written out') line' step.kept
+pub data Run (line₀ : List ℕ) : (input written line : List ℕ) → Option ℕ → Type 0 where
+  begin : Run line₀ [] [] line₀ (Some 0)
+  call : {input written line rest out line' out' : List ℕ} {kept kept' : Option ℕ} {step : Step} → Run line₀ input written line kept
+      → Stepped line kept rest out step line' kept' out'
+      → Run line₀ (input ++ take step.used rest) (written ++ take step.written out') line' kept'
 
 -- What `last` writes at the end of the input: the answer to a last line that lacks its line feed.
-unfoldable pub last_answer : List ℕ → Kept → List ℕ
-last_answer line (Characters zero) = []
-last_answer line (Characters (suc n)) = kept_answer line (Characters (suc n))
-last_answer line TooLong = kept_answer line TooLong
+unfoldable pub last_answer : List ℕ → Option ℕ → List ℕ
+last_answer line (Some zero) = []
+last_answer line (Some (suc n)) = kept_answer line (Some (suc n))
+last_answer line None = kept_answer line None

@@ -1,125 +1,153 @@
 // One line and its answer.
-ghost use Rattle.std.specs.Prelude.{◌≤◌, ◌<◌, ◌≡◌, [], ◌∷◌, length, take};
+ghost use Rattle.std.specs.Prelude.{◌≤◌, ◌<◌, ◌≡◌, [], ◌∷◌, ◌++◌, length};
 ghost use Rattle.text.specs.Hex.{hex};
 ghost use Rattle.text.specs.Part.{split};
-ghost use Rattle.line.specs.Line.{commanded, requested, decimal as decimal_of, refusal, reply as reply_of, reply_to, answer as answer_of, Written};
+ghost use Rattle.line.specs.Line.{commanded, requested, request_of, refusal, answer as answer_of, Written};
+ghost use Rattle.line.specs.Inner.{number_of, character, command_of, FieldRead, Answered};
+ghost use Rattle.line.specs.declared.answering.NoResult.TheVariants.{Refused};
 
 use crate::{LONGEST, ROOM};
-use text::hex::Decoded;
+use schemes::Hch;
+use strings::refusal::Refusal;
 
 // The most bytes that the digits of a line stand for.
 const BYTES: usize = LONGEST / 2;
 
-// Number 9 of 01: the line is not understood.
-pub(crate) const UNKNOWN: u32 = 9;
+// Why a line has no result: it is not understood, or the call that it asks for was refused.
+#[derive(Clone, Copy)]
+pub(crate) enum NoResult {
+    NotUnderstood,
+    Refused(Refusal),
+}
+
+impl NoResult {
+    // Its number in 01.
+    fn number(self) -> u32
+        ensures { result ≡ number_of self }
+    {
+        match self {
+            NoResult::NotUnderstood => 9,
+            NoResult::Refused(why) => why.number(),
+        }
+    }
+}
+
+impl From<Refusal> for NoResult {
+    ghost from_gives = { λ why e. e ≡ Refused why };
+
+    fn from(why: Refusal) -> NoResult {
+        NoResult::Refused(why)
+    }
+}
+
+// What a line asks for.
+#[derive(Clone, Copy)]
+enum Command {
+    Encipher,
+    Decipher,
+}
+
+impl TryFrom<u8> for Command {
+    type Error = NoResult;
+
+    ghost try_from_gives = { λ c r. r ≡ command_of c };
+
+    fn try_from(character: u8) -> Result<Command, NoResult> {
+        match character {
+            b'E' => Ok(Command::Encipher),
+            b'D' => Ok(Command::Decipher),
+            _ => Err(NoResult::NotUnderstood),
+        }
+    }
+}
 
 // Writes the answer to a line to the front of `out`, leaves the rest of `out`, and returns the
 // number of bytes written.
 pub fn answer(line: &[u8], out: &mut [u8; ROOM]) -> usize
     ensures { Written (answer_of line.now) result out.old out.new }
 {
-    if line.len() > LONGEST {
-        return refuse(UNKNOWN, out);
+    match result(line, out) {
+        Ok(n) => n,
+        Err(why) => refuse(why, out),
     }
-    if line.len() < 2 {
-        return refuse(UNKNOWN, out);
-    }
-    if line[1] != b' ' {
-        return refuse(UNKNOWN, out);
-    }
-    read_key(line[0], &line[2..], out)
 }
 
-// Reads the key, and goes on with the fields behind it.
-fn read_key(command: u8, fields: &[u8], out: &mut [u8; ROOM]) -> usize
+// Writes the result of what a line asks for, as `answer` does. Where there is none, `out` is as it
+// was.
+fn result(line: &[u8], out: &mut [u8; ROOM]) -> Result<usize, NoResult>
+    ensures { Answered (request_of line.now) result out.old out.new }
+{
+    if line.len() > LONGEST {
+        return Err(NoResult::NotUnderstood);
+    }
+    let [command, b' ', fields @ ..] = line else {
+        return Err(NoResult::NotUnderstood);
+    };
+    read(Command::try_from(*command)?, fields, out)
+}
+
+// Reads the key and the tweak, each in front of a space, and the message, which ends with the line:
+// a space is no digit, so a fourth field is refused there.
+fn read(command: Command, fields: &[u8], out: &mut [u8; ROOM]) -> Result<usize, NoResult>
     requires { length fields.now ≤ 8300 }
-    ensures { Written (reply_to (requested ((command ∷ []) ∷ split 32 fields.now))) result out.old out.new }
+    ensures { Answered (requested ((character command ∷ []) ∷ split 32 fields.now)) result out.old out.new }
 {
     let mut key = [0u8; BYTES];
-    let Decoded::Bytes(n) = text::hex::decode_field(fields, b' ', &mut key) else {
-        return refuse(UNKNOWN, out);
-    };
-    read_tweak(command, &key[0..n], &fields[2 * n + 1..], out)
-}
-
-// Reads the tweak, and goes on with the field behind it.
-fn read_tweak(command: u8, key: &[u8], fields: &[u8], out: &mut [u8; ROOM]) -> usize
-    requires { length fields.now ≤ 8300 }
-    ensures { Written (reply_to (requested ((command ∷ []) ∷ hex key.now ∷ split 32 fields.now))) result out.old out.new }
-{
     let mut tweak = [0u8; BYTES];
-    let Decoded::Bytes(n) = text::hex::decode_field(fields, b' ', &mut tweak) else {
-        return refuse(UNKNOWN, out);
-    };
-    read_message(command, key, &tweak[0..n], &fields[2 * n + 1..], out)
-}
-
-// Reads the message, which ends with the line: a space is no digit, so a fourth field is refused
-// here.
-fn read_message(command: u8, key: &[u8], tweak: &[u8], digits: &[u8], out: &mut [u8; ROOM]) -> usize
-    requires { length digits.now ≤ 8300 }
-    ensures { Written (reply_to (requested ((command ∷ []) ∷ hex key.now ∷ hex tweak.now ∷ split 32 digits.now))) result out.old out.new }
-{
     let mut message = [0u8; BYTES];
-    let Decoded::Bytes(n) = text::hex::decode(digits, &mut message) else {
-        return refuse(UNKNOWN, out);
-    };
-    run(command, key, tweak, &mut message[0..n], out)
+    let k = read_field(fields, &mut key)?;
+    let fields = &fields[2 * k + 1..];
+    let t = read_field(fields, &mut tweak)?;
+    let digits = &fields[2 * t + 1..];
+    let m = text::hex::decode(digits, &mut message).ok_or(NoResult::NotUnderstood)?;
+    run(command, &key[..k], &tweak[..t], &mut message[..m], out)
 }
 
-// Enciphers or deciphers the message, and answers what the call answered.
-fn run(command: u8, key: &[u8], tweak: &[u8], message: &mut [u8], out: &mut [u8; ROOM]) -> usize
-    ensures { Written (reply_to (commanded (command ∷ []) key.now tweak.now message.old)) result out.old out.new }
+// Reads the field at the front of `fields` to the front of `room`, and answers how many bytes it has:
+// what follows its space begins at 2 * n + 1.
+fn read_field(fields: &[u8], room: &mut [u8; BYTES]) -> Result<usize, NoResult>
+    requires { length fields.now ≤ 8300 }
+    ensures { FieldRead fields.now result room.new }
 {
-    if command == b'E' {
-        let answer = hch::encipher(key, tweak, message);
-        return reply(answer.number(), message, out);
-    }
-    if command == b'D' {
-        let answer = hch::decipher(key, tweak, message);
-        return reply(answer.number(), message, out);
-    }
-    refuse(UNKNOWN, out)
+    text::hex::decode_field(fields, b' ', room).ok_or(NoResult::NotUnderstood)
 }
 
-// Writes the digits of what a call left and a line feed, or that it was refused.
-fn reply(number: u32, left: &[u8], out: &mut [u8; ROOM]) -> usize
-    requires number_bound { number < 100 }
-    requires left_len_bound { number ≡ 0 → length left.now ≤ 4096 }
-    ensures { Written (reply_of number left.now) result out.old out.new }
+// Enciphers or deciphers the message, and writes what the call left, if it was not refused.
+fn run(
+    command: Command,
+    key: &[u8],
+    tweak: &[u8],
+    message: &mut [u8],
+    out: &mut [u8; ROOM],
+) -> Result<usize, NoResult>
+    ensures { Answered (commanded (character command ∷ []) key.now tweak.now message.old) result out.old out.new }
 {
-    if number > 0 {
-        return refuse(number, out);
+    match command {
+        Command::Encipher => schemes::encipher::<Hch>(key, tweak, message)?,
+        Command::Decipher => schemes::decipher::<Hch>(key, tweak, message)?,
     }
+    Ok(reply(message, out))
+}
+
+// Writes the digits of what a call left and a line feed.
+fn reply(left: &[u8], out: &mut [u8; ROOM]) -> usize
+    requires { length left.now ≤ 4096 }
+    ensures { Written (hex left.now ++ 10 ∷ []) result out.old out.new }
+{
     let n = text::hex::encode(left, out);
     strings::places::write(out, n, b"\n");
     n + 1
 }
 
 // Writes `no `, the number in decimal and a line feed.
-pub(crate) fn refuse(number: u32, out: &mut [u8; ROOM]) -> usize
-    requires { number < 100 }
-    ensures { Written (refusal number) result out.old out.new }
+pub(crate) fn refuse(why: NoResult, out: &mut [u8; ROOM]) -> usize
+    ensures { Written (refusal (number_of why)) result out.old out.new }
 {
-    let mut digits = [0u8; 2];
-    let k = decimal(number, &mut digits);
+    let mut buffer = itoa::Buffer::new();
+    let digits = buffer.format(why.number()).as_bytes();
+    let k = digits.len();
     strings::places::write(out, 0, b"no ");
-    strings::places::write(out, 3, &digits[..k]);
+    strings::places::write(out, 3, digits);
     strings::places::write(out, 3 + k, b"\n");
     4 + k
-}
-
-// Writes a number below 100 in decimal to the front of `digits`, and returns the number of its digits.
-fn decimal(number: u32, digits: &mut [u8; 2]) -> usize
-    requires { number < 100 }
-    ensures upper_bound { result ≤ 2 }
-    ensures digits_after { take result digits.new ≡ decimal_of number }
-{
-    if number < 10 {
-        digits[0] = b'0' + number as u8;
-        return 1;
-    }
-    digits[0] = b'0' + (number / 10) as u8;
-    digits[1] = b'0' + (number % 10) as u8;
-    2
 }

@@ -1,25 +1,24 @@
--- How much of the chunk a call uses up.
+-- A call uses up some of what is left of the chunk, and no more.
 use mathlib.Core.Path.{◌≡◌}
 use mathlib.Core.List.{List}
-use Prim.Native.Nat.{ℕ, ◌-◌, ◌≤◌, ◌<◌}
+use Rattle.std.proofs.Common.{rules}
+use Prim.Native.Nat.{ℕ, ◌≤◌, ◌<◌}
 use native.Mathlib.Omega.{arith}
-use lib.ListN.{length, take, drop, length-take, length-drop}
+use lib.ListN.{length, length-take, length-drop}
 use Rattle.line.specs.Inner.{used_by}
 use Rattle.line.proofs.Used.{used}
 use Rattle.boardline.proofs.answer_lines.Goals as goal
 
--- some of what is left of it, and no more
-uses : (chunk : List ℕ) (at n : ℕ) → at < length chunk → n ≡ used_by (take (length chunk - at) (drop at chunk)) → (0 < n) × (n ≤ length chunk - at)
-uses chunk at n h e =
-    let rest = take (length chunk - at) (drop at chunk) in
-    let long : length rest ≡ length chunk - at = simp (length-take, length-drop) (omega arith) in
-    rw e (omega (arith, used rest (omega arith), long))
+uses : (rest : List ℕ) {n : ℕ} → n ≡ used_by rest → 0 < length rest → (0 < n) × (n ≤ length rest)
+uses rest e h = rw e (used rest h)
 
-pub overflow_add-at : goal.overflow_add-at
-overflow_add-at g c = omega (arith, uses c.args.chunk.now c.loop-at.at _ c.loop-at-test.true c.next-step.ensures.used)
+pub slice_bounds-rest-count : goal.slice_bounds-rest-count
+slice_bounds-rest-count g c = (uses c.loop-rest.rest.now c.next-step.ensures.used (search rules)).1
 
-pub loop-at-smaller : goal.loop-at-smaller
-loop-at-smaller g c = omega (arith, uses c.args.chunk.now c.loop-at.at _ c.loop-at-test.true c.next-step.ensures.used)
+pub slice_bounds-rest-start : goal.slice_bounds-rest-start
+slice_bounds-rest-start g c = let u = uses c.loop-rest.rest.now c.next-step.ensures.used (search rules) in search rules
 
-pub loop-at-preserved : goal.loop-at-preserved
-loop-at-preserved g c = omega (arith, uses c.args.chunk.now c.loop-at.at _ c.loop-at-test.true c.next-step.ensures.used)
+pub loop-rest-smaller : goal.loop-rest-smaller
+loop-rest-smaller g c =
+    let u = uses c.loop-rest.rest.now c.next-step.ensures.used (search rules) in
+    simp (length-take, length-drop) (omega (arith, u.0, u.1))

@@ -1,10 +1,9 @@
--- Each call uses up some of the chunk, and no more than is left of it, which is the measure.
-use Prim.Native.Nat.{◌-◌, ◌≤◌}
+-- Each call uses up some of what is left of the chunk, which is the measure.
 use lib.ListN.{length}
 use Rattle.boardline.proofs.answer_lines.Given as goal
 
-abbrev pub invariant-loop-at : goal.invariant-loop-at
-invariant-loop-at g l = l.at ≤ length l.chunk
+abbrev pub invariant-loop-rest : goal.invariant-loop-rest
+invariant-loop-rest g l = Unit {0}
 
-abbrev pub decreases-loop-at : goal.decreases-loop-at
-decreases-loop-at g l = length l.chunk - l.at
+abbrev pub decreases-loop-rest : goal.decreases-loop-rest
+decreases-loop-rest g l = length l.rest

@@ -1,44 +1,45 @@
--- `E` and `D` are two calls of `hch`, whose answer and work make the reply; every other command is refused.
-use borrow.Author.Tests.{eq-eqb, ne_eqb}
+-- The two calls: what one left is the result, or its refusal is told.
+use Rattle.std.proofs.Common.{rules, refl, ◌≡◌, ◌∙◌, Err}
 use Rattle.hch.specs.Hch.{enciphered, deciphered}
 use Rattle.line.specs.Line.{commanded, reply_to}
-use Rattle.line.proofs.Written.{written_as, reply_called, call_fits}
+use Rattle.line.specs.declared.answering.NoResult.TheVariants.{Refused}
+use Rattle.line.proofs.Calls.{called, refused, done}
+use Rattle.line.proofs.answering.run.Goals.{in-Encipher+in_ok-encipher-in-Encipher, in-Decipher+in_ok-decipher-in-Decipher}
 use Rattle.line.proofs.answering.run.Goals as goal
 
-pub reply-requires : goal.reply-requires
-reply-requires c =
-    let args = c.args in
-    let h =
-    call_fits args.key.now args.tweak.now args.message.now c.encipher-answer.new.message c.encipher-answer.result c.number.result c.encipher-answer.ensures.value
-    c.number.ensures c.encipher-answer.auto.message in
-    record { number_bound = h.0; left_len_bound = h.1 }
-
-pub returns-then-command-eq69 : goal.returns-then-command-eq69
+pub returns-in_err-encipher-in-Encipher : goal.returns-in_err-encipher-in-Encipher
 unfolding reply_to commanded
-returns-then-command-eq69 c =
-    let args = c.args in
-    rw (eq-eqb args.command 69 c.if-command-eq69.true)
-    (written_as (reply_called c.encipher-answer.result _ c.number.result _ (enciphered args.key.now args.tweak.now args.message.now) args.message.now c.encipher-answer.ensures.value c.number.ensures c.encipher-answer.ensures.message_after)
-    c.reply.ensures)
+returns-in_err-encipher-in-Encipher c =
+    let a = c.args in
+    let err = c.in_err-encipher-in-Encipher in
+    let why : c.from_residual.result ≡ Err (Refused err.field-0.0) = search rules in
+    rw (c.in-Encipher.is, why, called a.key.now a.tweak.now a.message.now c.encipher.ensures.value)
+    (refused c.encipher.result err.field-0.0 (enciphered a.key.now a.tweak.now a.message.now) err.was, refl)
 
-pub reply-requires-then-command-eq68 : goal.reply-requires-then-command-eq68
-reply-requires-then-command-eq68 c =
-    let args = c.args in
-    let h =
-    call_fits args.key.now args.tweak.now args.message.now c.decipher-answer.new.ciphertext c.decipher-answer.result c.number-then-command-eq68.result c.decipher-answer.ensures.value
-    c.number-then-command-eq68.ensures c.decipher-answer.auto.ciphertext in
-    record { number_bound = h.0; left_len_bound = h.1 }
-
-pub returns-then-command-eq68 : goal.returns-then-command-eq68
+pub returns-in_err-decipher-in-Decipher : goal.returns-in_err-decipher-in-Decipher
 unfolding reply_to commanded
-returns-then-command-eq68 c =
-    let args = c.args in
-    rw (ne_eqb args.command 69 c.if-command-eq69.false, eq-eqb args.command 68 c.if-command-eq68.true)
-    (written_as (reply_called c.decipher-answer.result _ c.number-then-command-eq68.result _ (deciphered args.key.now args.tweak.now args.message.now) args.message.now c.decipher-answer.ensures.value c.number-then-command-eq68.ensures c.decipher-answer.ensures.ciphertext_after)
-    c.reply-then-command-eq68.ensures)
+returns-in_err-decipher-in-Decipher c =
+    let a = c.args in
+    let err = c.in_err-decipher-in-Decipher in
+    let why : c.from_residual-in_err-decipher-in-Decipher.result ≡ Err (Refused err.field-0.0) = search rules in
+    rw (c.in-Decipher.is, why, called a.key.now a.tweak.now a.message.now c.decipher.ensures.value)
+    (refused c.decipher.result err.field-0.0 (deciphered a.key.now a.tweak.now a.message.now) err.was, refl)
 
 pub returns : goal.returns
 unfolding reply_to commanded
 returns c =
-    let args = c.args in
-    rw (ne_eqb args.command 69 c.if-command-eq69.false, ne_eqb args.command 68 c.if-command-eq68.false) c.refuse.ensures
+    let a = c.args in
+    elim c.match-command.branch [
+      | in-Encipher+in_ok-encipher-in-Encipher w ↦
+          rw (
+            w.in-Encipher.is,
+            called a.key.now a.tweak.now a.message.now w.encipher.ensures.value,
+            done w.encipher.result (enciphered a.key.now a.tweak.now a.message.now) a.message.now w.in_ok-encipher-in-Encipher.was (w.message-is ∙ w.encipher.ensures.message_after),
+          ) c.reply.ensures
+      | in-Decipher+in_ok-decipher-in-Decipher w ↦
+          rw (
+            w.in-Decipher.is,
+            called a.key.now a.tweak.now a.message.now w.decipher.ensures.value,
+            done w.decipher.result (deciphered a.key.now a.tweak.now a.message.now) a.message.now w.in_ok-decipher-in-Decipher.was (w.message-is ∙ w.decipher.ensures.ciphertext_after),
+          ) c.reply.ensures
+    ]

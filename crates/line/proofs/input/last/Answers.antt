@@ -1,23 +1,10 @@
--- There is a last line if a character of it is kept, or more than there is room for.
-use mathlib.Core.Path.{◌≡◌, refl}
-use native.Mathlib.Omega.{arith}
-use Rattle.line.specs.Input.{last_answer}
-use Rattle.line.proofs.Chunks.{last_some}
+-- There is a last line unless none of its characters is kept.
+use mathlib.Core.Path.{refl, sym}
+use Rattle.line.proofs.Chunks.{last_none, last_some}
 use Rattle.line.proofs.input.last.Goals as goal
 
-pub returns-in_default : goal.returns-in_default
-unfolding last_answer
-returns-in_default c =
-    let told = c.in_default.is in
-    rw told (rw told at c.answer_kept.ensures)
-
-pub returns-then-n-eq0 : goal.returns-then-n-eq0
-unfolding last_answer
-returns-then-n-eq0 c =
-    let none : c.in-Characters.n ≡ 0 = omega (arith, c.if-n-eq0.true) in
-    rw (c.in-Characters.is, none) (record { counted = refl; written = refl })
+pub returns-then-is_empty : goal.returns-then-is_empty
+returns-then-is_empty c = rw (last_none c.args.line.now.chars c.args.line.now.kept (sym c.if-is_empty.ensures)) (record { counted = refl; written = refl })
 
 pub returns : goal.returns
-returns c =
-    let line = c.args.line.now in
-    rw (c.in-Characters.is, last_some line c.in-Characters.n c.if-n-eq0.false) c.answer_kept-2.ensures
+returns c = rw (last_some c.args.line.now.chars c.args.line.now.kept (sym c.if-is_empty.ensures)) c.answer_kept.ensures

@@ -1,48 +1,46 @@
 -- The line goes on with what stands in front of the line feed, and is answered where one is found.
-use borrow.Author.Tests.{lt-ltb, le-ltb}
-use mathlib.Core.Path.{◌≡◌, refl}
-use Prim.Native.Nat.{ℕ, ◌-◌}
-use native.Mathlib.Nat.{sub-zero}
-use native.Mathlib.Omega.{arith}
+use mathlib.Core.Path.{◌≡◌, refl, sym, ◌∙◌}
+use native.Mathlib.Numerals.{add-one}
+use lib.Dec.{eqb}
 use lib.ListN.{length, take}
-use mathlib.Core.List.{List}
+use borrow.Author.Tests.{tests, lt-ltb, le-ltb}
+use Rattle.std.proofs.Common.{rules}
+use Rattle.std.proofs.lemmas.Iterator.{YieldsList-from_slice}
+use Rattle.std.proofs.lemmas.Iterator.Search.{position_from_yields_List}
 use Rattle.text.specs.Inner.{before}
-use Rattle.text.proofs.Parts.{before_le, before-take}
-use Rattle.line.specs.Line.{Written}
-use Rattle.line.specs.Inner.{ends_in, used_by, kept_line, kept_of, kept_after, kept_answer, answer_after}
+use Rattle.text.proofs.Parts.{before-take, before_all, place_found, place_none}
+use Rattle.line.specs.Inner.{ends_in, used_by, kept_line, kept_of, kept_after, answer_after}
 use Rattle.line.proofs.input.next.Goals as goal
 
--- the part in front of the line feed, as it was lent
-lent : (rest : List ℕ) (n : ℕ) → n ≡ length (before 10 rest) → take (n - 0) rest ≡ before 10 rest
-lent rest n place = rw (sub-zero, place) (before-take 10 rest)
-
-pub slice_bounds-append-end-2 : goal.slice_bounds-append-end-2
-slice_bounds-append-end-2 c = omega (arith, c.line_end-end.ensures, before_le 10 c.args.rest.now)
-
-pub returns-then-end-rest : goal.returns-then-end-rest
+pub returns-in_default : goal.returns-in_default
 unfolding ends_in used_by kept_line kept_of kept_after answer_after
-returns-then-end-rest c =
-    let args = c.args in
-    let rest = args.rest.now in
-    let place = c.line_end-end.ensures in
-    let part = lent rest c.line_end-end.result place in
-    let ends = lt-ltb (length (before 10 rest)) (length rest) (rw place at c.if-end-rest.true) in
-    let kept = rw part at c.append-more.ensures.value in
-    let line = rw part at c.append-more.ensures.line_after in
-    let answered : Written (kept_answer c.append-more.new.line c.append-more.result) c.answer_kept-written.result args.out.now c.answer_kept-written.new.out =
-    c.answer_kept-written.ensures in
-    record { used = rw ends (omega (arith, place)); keeps = rw ends; collected = line; answered = rw ends (rw (line, kept) at answered) }
+returns-in_default c =
+    let rest = c.args.rest.now in
+    let is = position_from_yields_List (λ x. eqb x 10) _ _ c.position.result c.position.ensures.ran (YieldsList-from_slice rest cc) (λ x b q k. search (rules, tests)) in
+    let none = place_none 10 rest (sym is ∙ c.in_default.is) in
+    let all = before_all 10 rest none in
+    let goes_on = le-ltb (length (before 10 rest)) (length rest) none in
+    record {
+      used = rw goes_on refl;
+      keeps = rw (goes_on, all) c.append.ensures.kept_after;
+      collected = rw all c.append.ensures.chars_after;
+      answered = rw goes_on (record { counted = refl; written = refl });
+    }
 
 pub returns : goal.returns
 unfolding ends_in used_by kept_line kept_of kept_after answer_after
 returns c =
     let rest = c.args.rest.now in
-    let place = c.line_end-end.ensures in
-    let part = lent rest c.line_end-end.result place in
-    let ends = le-ltb (length (before 10 rest)) (length rest) (rw place at c.if-end-rest.false) in
+    let end = c.in-Some.end in
+    let is = position_from_yields_List (λ x. eqb x 10) _ _ c.position.result c.position.ensures.ran (YieldsList-from_slice rest cc) (λ x b q k. search (rules, tests)) in
+    let found = place_found 10 rest end (sym is ∙ c.in-Some.is) in
+    let part : take end rest ≡ before 10 rest = rw found.0 (before-take 10 rest) in
+    let ends = lt-ltb (length (before 10 rest)) (length rest) found.1 in
+    let chars = rw part at c.append-2.ensures.chars_after in
+    let kept = rw part at c.append-2.ensures.kept_after in
     record {
-      used = rw ends (omega (arith, place, before_le 10 rest));
-      keeps = rw ends (rw part at c.append-more.ensures.value);
-      collected = rw part at c.append-more.ensures.line_after;
-      answered = rw ends (record { counted = refl; written = refl });
+      used = rw (ends, found.0) (add-one _);
+      keeps = rw ends c.clear.ensures.none_kept;
+      collected = c.clear.ensures.chars_kept ∙ chars;
+      answered = rw ends (rw (chars, kept) at c.answer_kept-written.ensures);
     }
