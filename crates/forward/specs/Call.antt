@@ -10,7 +10,7 @@ abbrev pub tests_behind_key : (tweak message : List ℕ) → Tests
 tests_behind_key = Message.tests_behind_key 33 ForwardTooShort
 
 -- 02, Point 5, "13, data under 33 bytes for this scheme; it stands where 3 stood in the order": 1, 2, 13, 4.
-unfoldable pub tests : (key tweak message : List ℕ) → Tests
+abbrev pub tests : (key tweak message : List ℕ) → Tests
 tests key tweak message = Message.tests forward 33 ForwardTooShort key tweak message
 
 abbrev pub answer_of : (key tweak message : List ℕ) → Answer

@@ -10,5 +10,4 @@ use Rattle.hch.specs.Hch.{hch}
 use Rattle.hch.specs.Call.{tests, answer_of}
 
 pub admitted : (key tweak message : List ℕ) → number_of (answer_of key tweak message) ≡ 0 → Messages.Admitted 16 tweak message
-unfolding tests
 admitted key tweak message = Messages.admitted 16 TooShort tweak message hch key

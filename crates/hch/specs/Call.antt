@@ -10,7 +10,7 @@ abbrev pub tests_behind_key : (tweak message : List ℕ) → Tests
 tests_behind_key = Message.tests_behind_key 16 TooShort
 
 -- 01, "HCH looks at 1, 2, 3, 4 in this order".
-unfoldable pub tests : (key tweak message : List ℕ) → Tests
+abbrev pub tests : (key tweak message : List ℕ) → Tests
 tests key tweak message = Message.tests hch 16 TooShort key tweak message
 
 abbrev pub answer_of : (key tweak message : List ℕ) → Answer

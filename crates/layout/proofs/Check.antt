@@ -24,9 +24,9 @@ use Rattle.std.specs.Prelude.{Some, None}
 use Rattle.std.specs.Bool.{then_some}
 
 -- u is two bytes.
-pub used-bytes : (B : List ℕ) → OfLength 512 B → number (padded 2 (drop 508 B)) % 2 ^ 64 ≡ used B
+pub used_bytes : (B : List ℕ) → OfLength 512 B → number (padded 2 (drop 508 B)) % 2 ^ 64 ≡ used B
 unfolding used
-used-bytes B h =
+used_bytes B h =
     let two : 2 ≤ length (drop 508 B) = rw (length-drop, h.0) (omega arith) in
     rw (padded-take 2 (drop 508 B) two) (mod-eq_of_lt (rw (padded-take 2 (drop 508 B) two) at (number_fits 2 8 508 B h.1 (omega arith))))
 
@@ -223,7 +223,7 @@ pub too_much_used : (pack place : ℕ) (B : List ℕ) → length B ≡ 512 → (
     → 496 < number (padded 2 (drop 508 B)) % 2 ^ 64 → passes pack place B ≡ false
 unfolding passes
 too_much_used pack place B long fit h =
-    rw (lt-leb (used B) 496 (omega (arith, h, used-bytes B (long, λ i. (fit i).fits))))
+    rw (lt-leb (used B) 496 (omega (arith, h, used_bytes B (long, λ i. (fit i).fits))))
 
 -- What was read tells of the check.
 module _ (pack place : ℕ) (B : List ℕ) where

@@ -12,7 +12,7 @@ use Rattle.strings.specs.Cipher.{TweakableCipher, Scheme}
 use Rattle.strings.proofs.Bytes.{below_take, below_drop}
 use Rattle.layout.specs.Layout.{tweak, used}
 use Rattle.layout.specs.Finding.{block_count, part}
-use Rattle.layout.proofs.Check.{tweak_of_length, used-bytes, used_below}
+use Rattle.layout.proofs.Check.{tweak_of_length, used_bytes, used_below}
 use Rattle.layout.proofs.Parts.{part_length}
 use Rattle.pack.specs.Sealing.{seal}
 use Rattle.pack.specs.Opening.{deciphered_block}
@@ -32,7 +32,7 @@ pub used-at : (i : ℕ) (run : List ℕ) {B : List ℕ} → Bytes run → 512 * 
     → (number (padded 2 (drop 508 B)) % 2 ^ 64 ≡ used (part i run)) × (number (padded 2 (drop 508 B)) % 2 ^ 64 < 65536)
 used-at i run {B} b h e =
     let size = part_of_length i run b h in
-    let read : number (padded 2 (drop 508 B)) % 2 ^ 64 ≡ used (part i run) = rw e (used-bytes (part i run) size) in
+    let read : number (padded 2 (drop 508 B)) % 2 ^ 64 ≡ used (part i run) = rw e (used_bytes (part i run) size) in
     (read, rw read (used_below (part i run) size))
 
 module _ (S : Scheme) (key : List ℕ) (cipher : TweakableCipher 16 512 (S.encipher key) (S.decipher key)) (pack first : ℕ) where

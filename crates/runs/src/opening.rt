@@ -38,8 +38,8 @@ impl NotOpened {
 impl From<Refusal> for NotOpened {
     ghost from_gives = { λ why not_opened. not_opened ≡ Refused why };
 
-    fn from(why: Refusal) -> NotOpened {
-        NotOpened::Refused(why)
+    fn from(why: Refusal) -> Self {
+        Self::Refused(why)
     }
 }
 

@@ -8,7 +8,7 @@ use lib.ListN.{length, take, drop, length-drop}
 use lib.Seq.{length-take-le}
 use Rattle.strings.specs.Bytes.{bytes, equal}
 use Rattle.layout.specs.Layout.{used}
-use Rattle.layout.proofs.Check.{used-bytes, passes_parts}
+use Rattle.layout.proofs.Check.{used_bytes, passes_parts}
 use Rattle.layout.proofs.Comparison.{none_of_four}
 use Rattle.layout.proofs.Position.read.Goals as goal
 
@@ -24,7 +24,7 @@ returns c =
     let B = a.block.now in
     let long = c.if-block-ne512.false in
     let u = c.get-u.result in
-    let is : u ≡ used B = c.get-u.ensures ∙ used-bytes B (long, λ i. (c.type_inv.block i).fits) in
+    let is : u ≡ used B = c.get-u.ensures ∙ used_bytes B (long, λ i. (c.type_inv.block i).fits) in
     let filling = compared _ u (496 - u) 0 B long (omega (arith, c.if-u-gt496.false)) c.difference-filling_differs.ensures in
     let pack = compared _ 496 8 a.self.pack B long (omega arith) c.difference-pack_differs.ensures in
     let place = compared _ 504 4 a.self.place B long (omega arith) c.difference-place_differs.ensures in
