@@ -13,6 +13,13 @@ pub struct Block {
     pub lo: u64,
 }
 
+// Two blocks, one after the other.
+#[derive(Clone, Copy)]
+pub struct Pair {
+    pub first: Block,
+    pub second: Block,
+}
+
 // Whether a string of that length has 16 bytes from place `at` on. That may be any number, for no sum is made that could be too large.
 fn whole(length: usize, at: usize) -> bool
     ensures { (result ≡ true → at + 16 ≤ length) × (result ≡ false → length < at + 16) }

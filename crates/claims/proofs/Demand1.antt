@@ -15,9 +15,6 @@ use Rattle.strings.proofs.Refusals.{refusal_range}
 use Rattle.layout.proofs.Check.{zero_told, not_zero}
 use Rattle.primitives.specs.Aes.{is_key}
 use Rattle.hch.specs.Hch.{hch}
-use Rattle.hch.specs.Call.{tests}
-use Rattle.pack.specs.Sealing.{tests as tests_of_sealing}
-use Rattle.pack.specs.Opening.{tests as tests_of_opening}
 use Rattle.line.specs.Line.{reply_to, answer}
 use Rattle.claims.specs.Demand1.{MessageNumbers, SealingNumbers, OpeningNumbers, Demand1}
 use Rattle.claims.proofs.Keys.{is_key_lem, no_key}
@@ -30,7 +27,6 @@ refused_left (suc n) work lent h = refl
 -- Of sealing and opening by every scheme that takes AES's keys.
 module _ (S : Scheme) (keys : (key : List ℕ) → S.is_key key ≡ is_key key) where
   pub sealing_numbers : SealingNumbers S
-  unfolding tests_of_sealing looks_at
   sealing_numbers = record {
     seal_1 = λ key payload place block k. rw (keys key, no_key key k);
     seal_7 = λ key payload place block k b. rw (keys key, is_key_lem key k, ne_eqb _ 512 b);
@@ -40,7 +36,6 @@ module _ (S : Scheme) (keys : (key : List ℕ) → S.is_key key ≡ is_key key) 
   }
 
   pub opening_numbers : OpeningNumbers S
-  unfolding tests_of_opening looks_at
   opening_numbers = record {
     open_1 = λ key pack place block k. rw (keys key, no_key key k);
     open_7 = λ key pack place block k b. rw (keys key, is_key_lem key k, ne_eqb _ 512 b);
@@ -53,7 +48,6 @@ module _ (S : Scheme) (keys : (key : List ℕ) → S.is_key key ≡ is_key key) 
   -- And of the calls on messages.
   pub message_numbers : (least : ℕ) (short : Refusal) → least ≤ 4096
       → MessageNumbers (λ key tweak message. number_of (looks_at (tests_of_message S least short key tweak message))) least (refusal_number short)
-  unfolding looks_at
   message_numbers least short l = record {
     message_1 = λ key tweak message k. rw (keys key, no_key key k);
     message_2 = λ key tweak message k t. rw (keys key, is_key_lem key k, ne_eqb _ 16 t);
@@ -63,7 +57,7 @@ module _ (S : Scheme) (keys : (key : List ℕ) → S.is_key key ≡ is_key key) 
   }
 
 pub demand_1 : Demand1
-unfolding reply_to answer tests looks_at
+unfolding reply_to answer
 demand_1 = record {
   hch_numbers = message_numbers hch (λ key. refl) 16 TooShort (omega arith);
   hch_sealing = sealing_numbers hch (λ key. refl);

@@ -11,9 +11,8 @@ use borrow.Author.Tests.{lt-ltb, le-ltb}
 use lib.Dec.{lit<}
 use lib.ListN.{get_or}
 use Rattle.strings.specs.Bytes.{bytes}
-use Rattle.strings.specs.Call.{number_of}
-use Rattle.strings.specs.declared.refusal.Answer.{Answer}
-use Rattle.strings.specs.declared.refusal.Answer.TheVariants.{Done, Refused}
+use Rattle.std.specs.Prelude.{Ok, Err}
+use Rattle.strings.specs.Call.{Answer, number_of}
 use Rattle.strings.proofs.Refusals.{refusal_range, number_range}
 use Rattle.hch.specs.Hch.{encipher, decipher, enciphered_by, deciphered_by, enciphered, deciphered}
 use Rattle.hch.specs.Call.{answer_of}
@@ -53,8 +52,8 @@ not_9 zero (c ∷ cs) h other b e =
 not_9 (suc n) work h other b e = other (written_9 (suc n) h e)
 
 answer_not_9 : (a : Answer) → number_of a ≡ 9 → ⊥
-answer_not_9 Done e = omega (arith, e)
-answer_not_9 (Refused why) e = (refusal_range why).2 e
+answer_not_9 (Ok a) e = omega (arith, e)
+answer_not_9 (Err why) e = (refusal_range why).2 e
 
 asked : (r : Request) → reply_to r ≡ refusal 9 → r ≡ Unknown
 unfolding reply_to

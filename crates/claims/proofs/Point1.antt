@@ -7,7 +7,7 @@ use mathlib.Core.List.{List, [], ◌++◌}
 use native.Mathlib.Omega.{arith}
 use borrow.Author.Tests.{le-leb, lt-leb}
 use lib.ListN.{length, take, drop, replicate}
-use Rattle.strings.specs.Call.{looks_at, left_by}
+use Rattle.strings.specs.Call.{left_by}
 use Rattle.layout.specs.Finding.{block_count, is_pack, part, parts, with_part, tests, found, Holds}
 use Rattle.layout.proofs.Parts.{is_pack_lem, count_of, pack_of}
 use Rattle.layout.proofs.Written.{in_pack}
@@ -24,11 +24,11 @@ module _ (n : ℕ) (pack : List ℕ) (p : IsPack n pack) where
   is_one = pack_of n pack p.2 p.0 p.1
 
   done : (place : ℕ) → place < n → of_finding place pack ≡ 0
-  unfolding tests looks_at
+  unfolding tests
   done place h = rw (is_one, lt-leb (length pack / 512) place (omega (arith, blocks, h)))
 
   past : (place : ℕ) → n ≤ place → of_finding place pack ≡ 6
-  unfolding tests looks_at
+  unfolding tests
   past place h = rw (is_one, le-leb (length pack / 512) place (omega (arith, blocks, h)))
 
   part_of : (place : ℕ) → place < n → found place pack ≡ take 512 (drop (512 * place) pack)
@@ -46,12 +46,12 @@ not_a_pack pack true e none =
 not_a_pack pack false e none = e
 
 not_found : (place : ℕ) (pack : List ℕ) → is_pack pack ≡ false → of_finding place pack ≡ 10
-unfolding tests looks_at
+unfolding tests
 not_found place pack e = rw e
 
 two_blocks : let pack : List ℕ = replicate 512 1 ++ replicate 512 2 in
     (found 0 pack ≡ replicate 512 1) × (found 1 pack ≡ replicate 512 2) × (of_finding 2 pack ≡ 6) × (of_finding 0 [] ≡ 10)
-unfolding tests looks_at is_pack part
+unfolding tests is_pack part
 two_blocks = (refl, refl, refl, refl)
 
 left_work : {number : ℕ} → number ≡ 0 → (work lent : List ℕ) → left_by number work lent ≡ work

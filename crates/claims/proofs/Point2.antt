@@ -10,14 +10,13 @@ use borrow.Author.Tests.{eq-eqb, ne_eqb, lt-ltb, le-ltb}
 use lib.Dec.{ltb}
 use lib.ListN.{length, get_or, replicate}
 use Rattle.strings.specs.Bytes.{Bytes}
-use Rattle.strings.specs.Call.{looks_at}
 use Rattle.strings.specs.One.{tally}
 use Rattle.primitives.specs.Aes.{is_key}
 use Rattle.hch.specs.Hch.{hch}
 use Rattle.layout.specs.Finding.{is_pack}
 use Rattle.runs.specs.Run.{times}
-use Rattle.runs.specs.Sealing.{some_over, tests as tests_of_sealing}
-use Rattle.runs.specs.Opening.{tests as tests_of_opening, answer_of, NumberAt, Unopened}
+use Rattle.runs.specs.Sealing.{some_over}
+use Rattle.runs.specs.Opening.{answer_of, NumberAt, Unopened}
 use Rattle.runs.specs.Theorems.{Runs, WithinLimits, laid_out}
 use Rattle.runs.proofs.Answers.{all_open}
 use Rattle.runs.proofs.Lists.{some_over_lem, over_some}
@@ -36,11 +35,9 @@ hch_runs key k = (RunTheorems.theorems).any_cipher hch key (is_key_lem key k) (h
 -- ---- the numbers
 
 not_run_sealing : (key : List ℕ) (first : ℕ) (lengths run : List ℕ) → IsKey key → is_pack run ≡ false → of_sealing key first lengths run ≡ 10
-unfolding tests_of_sealing looks_at
 not_run_sealing key first lengths run k e = rw (is_key_lem key k, e)
 
 not_run_opening : (key : List ℕ) (pack first : ℕ) (lengths run : List ℕ) → IsKey key → is_pack run ≡ false → of_opening key pack first lengths run ≡ 10
-unfolding tests_of_opening looks_at
 not_run_opening key pack first lengths run k e = rw (is_key_lem key k, e)
 
 module _ (key : List ℕ) (n first : ℕ) (lengths run : List ℕ) (k : IsKey key) (p : IsPack n run) where
@@ -48,11 +45,9 @@ module _ (key : List ℕ) (n first : ℕ) (lengths run : List ℕ) (k : IsKey ke
   list_differs other e = other (e ∙ blocks n run p)
 
   seals_11 : (length lengths ≡ n → ⊥) → of_sealing key first lengths run ≡ 11
-  unfolding tests_of_sealing looks_at
   seals_11 other = rw (is_key_lem key k, is_one n run p, ne_eqb (length lengths) (length run / 512) (list_differs other))
 
   opens_11 : (pack : ℕ) → (length lengths ≡ n → ⊥) → of_opening key pack first lengths run ≡ 11
-  unfolding tests_of_opening looks_at
   opens_11 pack other = rw (is_key_lem key k, is_one n run p, ne_eqb (length lengths) (length run / 512) (list_differs other))
 
 module _ (key : List ℕ) (n first : ℕ) (lengths run : List ℕ) (l : Lent key n lengths run) where
@@ -69,32 +64,27 @@ module _ (key : List ℕ) (n first : ℕ) (lengths run : List ℕ) (l : Lent key
       (hch_runs key l.0).unopened pack first lengths run b (is_key_lem key l.0) (is_one n run l.1) same_list near i (rw count h)
 
   seals_5 : (i : ℕ) → 496 < get_or lengths i 0 → of_sealing key first lengths run ≡ 5
-  unfolding tests_of_sealing looks_at
   seals_5 i over = rw (is_key_lem key l.0, is_one n run l.1, eq-eqb (length lengths) (length run / 512) same_list, over_some 496 lengths i over)
 
   within : NoneOver n lengths → some_over 496 lengths ≡ false
   within none = some_over_lem 496 lengths (λ i h. none i (omega (arith, h, l.2)))
 
   seals_6 : NoneOver n lengths → 65535 < first + n - 1 → of_sealing key first lengths run ≡ 6
-  unfolding tests_of_sealing looks_at
   seals_6 none past =
       let far : 65535 < first + length run / 512 - 1 = rw count past in
       rw (is_key_lem key l.0, is_one n run l.1, eq-eqb (length lengths) (length run / 512) same_list, within none, lt-ltb 65535 (first + length run / 512 - 1) far)
 
   sealed : NoneOver n lengths → first + n - 1 ≤ 65535 → of_sealing key first lengths run ≡ 0
-  unfolding tests_of_sealing looks_at
   sealed none last =
       let near : first + length run / 512 - 1 ≤ 65535 = rw count last in
       rw (is_key_lem key l.0, is_one n run l.1, eq-eqb (length lengths) (length run / 512) same_list, within none, le-ltb 65535 (first + length run / 512 - 1) near)
 
   opens_6 : (pack : ℕ) → 65535 < first + n - 1 → of_opening key pack first lengths run ≡ 6
-  unfolding tests_of_opening looks_at
   opens_6 pack past =
       let far : 65535 < first + length run / 512 - 1 = rw count past in
       rw (is_key_lem key l.0, is_one n run l.1, eq-eqb (length lengths) (length run / 512) same_list, lt-ltb 65535 (first + length run / 512 - 1) far)
 
   opened : (pack : ℕ) → first + n - 1 ≤ 65535 → ((i : ℕ) → i < n → of_block key pack first run i ≡ 0) → of_opening key pack first lengths run ≡ 0
-  unfolding tests_of_opening looks_at
   opened pack last each =
       let near : first + length run / 512 - 1 ≤ 65535 = rw count last in
       rw (
@@ -132,11 +122,10 @@ numbers : let key : List ℕ = replicate 16 0 in
     let run : List ℕ = replicate 1024 0 in
     (of_sealing key 0 [] [] ≡ 10) × (of_sealing key 65535 (497 ∷ []) run ≡ 11) × (of_sealing key 65535 (496 ∷ 497 ∷ []) run ≡ 5)
     × (of_sealing key 65535 (496 ∷ 496 ∷ []) run ≡ 6) × (of_sealing key 65534 (496 ∷ 496 ∷ []) run ≡ 0) × (of_opening key 0 4294967295 (0 ∷ 0 ∷ []) run ≡ 6)
-unfolding tests_of_sealing tests_of_opening looks_at is_pack is_key some_over
+unfolding is_pack is_key some_over
 numbers = (refl, refl, refl, refl, refl, refl)
 
 pub point_2 : Point2
-unfolding tests_of_sealing tests_of_opening looks_at
 point_2 = record {
   seal_1 = λ key first lengths run k. rw (no_key key k);
   seal_10 = λ key first lengths run k none. not_run_sealing key first lengths run k (not_a_pack run (is_pack run) refl none);

@@ -7,12 +7,12 @@ use mathlib.Core.Logic.{⊎_elim}
 use native.Mathlib.Omega.{arith}
 use lib.ListN.{length-replicate}
 use Rattle.strings.specs.Bytes.{OfLength, number, bytes, equal}
-use Rattle.strings.specs.Call.{looks_at}
+use Rattle.strings.specs.Call.{number_of}
 use Rattle.layout.specs.Layout.{check, used, passes, is_zero}
 use Rattle.layout.specs.Finding.{is_pack, part}
 use Rattle.hch.specs.Hch.{hch}
-use Rattle.pack.specs.Opening.{number_of, values_of, deciphered_block, tests, answer_of, Unopened}
-use Rattle.runs.specs.Opening.{number_of as number_of_run, values_of as values_of_run, in_turn, tests as tests_of_run, answer_of as answer_of_run}
+use Rattle.pack.specs.Opening.{values_of, deciphered_block, answer_of, Unopened}
+use Rattle.runs.specs.Opening.{number_of as number_of_run, values_of as values_of_run, in_turn, answer_of as answer_of_run}
 use Rattle.claims.specs.Demand1.{IsKey, of_opening}
 use Rattle.claims.specs.Point4.{zeros, damaged, unchanged, Point4}
 use Rattle.claims.proofs.Keys.{is_key_lem}
@@ -25,23 +25,23 @@ block_unopened : (key : List ℕ) (pack place : ℕ) (C : List ℕ) → IsKey ke
 block_unopened key pack place C k h l = (hch_pack key k).unopened pack place C h.1 (is_key_lem key k) h.0 l
 
 zeros_opened : (number_of (answer_of unchanged [] 0 0 zeros) ≡ 0) × (values_of (answer_of unchanged [] 0 0 zeros) ≡ 0 ∷ [])
-unfolding tests looks_at deciphered_block passes used check is_zero equal number bytes
+unfolding deciphered_block passes used check is_zero equal number bytes
 zeros_opened = (refl, refl)
 
 zeros_blank : number_of (answer_of unchanged [] 1 0 zeros) ≡ 12
-unfolding tests looks_at deciphered_block passes used check is_zero equal number bytes
+unfolding deciphered_block passes used check is_zero equal number bytes
 zeros_blank = refl
 
 one_byte : number_of (answer_of unchanged [] 1 0 damaged) ≡ 8
-unfolding tests looks_at deciphered_block passes used check is_zero equal number bytes
+unfolding deciphered_block passes used check is_zero equal number bytes
 one_byte = refl
 
 damaged_first : let answer = answer_of_run unchanged [] 1 3 (0 ∷ 0 ∷ []) (damaged ++ zeros) in (number_of_run answer ≡ 8) × (values_of_run answer ≡ 3 ∷ [])
-unfolding tests_of_run is_pack part in_turn tests looks_at deciphered_block passes used check is_zero equal number bytes
+unfolding is_pack part in_turn deciphered_block passes used check is_zero equal number bytes
 damaged_first = (refl, refl)
 
 zeros_first : let answer = answer_of_run unchanged [] 1 3 (0 ∷ 0 ∷ []) (zeros ++ damaged) in (number_of_run answer ≡ 12) × (values_of_run answer ≡ 3 ∷ [])
-unfolding tests_of_run is_pack part in_turn tests looks_at deciphered_block passes used check is_zero equal number bytes
+unfolding is_pack part in_turn deciphered_block passes used check is_zero equal number bytes
 zeros_first = (refl, refl)
 
 pub point_4 : Point4

@@ -17,7 +17,6 @@ use Rattle.blocks.specs.Field.{times01, times_x as times_x_over, power}
 use Rattle.blocks.proofs.Theorems as Blocks
 use Rattle.primitives.proofs.Theorems as Aes
 use Rattle.forward.specs.Forward.{enciphered_by, deciphered_by, enciphered, deciphered, forward, forward_by}
-use Rattle.forward.specs.Call.{tests}
 use Rattle.forward.specs.Theorems.{BlockFunction}
 use Rattle.forward.proofs.Theorems as Forward
 use Rattle.pack.specs.Sealing.{seal}
@@ -51,7 +50,7 @@ primitive_element : (β i : ℕ) → IsBlock β → φ times_x β i ≡ power 1 
 primitive_element β i h = rw x_is at ((Blocks.theorems).phi_power 128 0x87 (lit< tt) (lit< tt) β i h)
 
 pub point_5 : Point5
-unfolding enciphered deciphered enciphered_by deciphered_by seal tests
+unfolding enciphered deciphered enciphered_by deciphered_by seal
 point_5 = record {
   enciphered_by_aes = λ key tweak P. refl;
   deciphered_by_aes = λ key tweak C. refl;

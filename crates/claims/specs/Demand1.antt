@@ -1,18 +1,16 @@
 -- Demand 1, over the definitions that the contracts of the calls cite: each of 01's numbers, and 02's 12 in the place of 8, under its listed condition, in
 -- the order of the call, and what is left. In each call the conditions leave nothing out, so that no number is answered at another time. What numbers 8 and 12
 -- mean is in Point4.antt. proofs/Demand1.antt has one value of the record.
-use Rattle.std.specs.Prelude.{ℕ, ◌≤◌, ◌<◌, ◌≡◌, true, false, List, [], ◌∷◌, ◌⊎◌, length, replicate}
+use Rattle.std.specs.Prelude.{ℕ, ◌≤◌, ◌<◌, ◌≡◌, true, false, List, [], ◌∷◌, ◌⊎◌, length, replicate, Ok, Err}
 use Rattle.strings.specs.Cipher.{Scheme}
-use Rattle.strings.specs.Call.{refusal_number, number_of, values_of, left_by}
+use Rattle.strings.specs.Call.{Answer, refusal_number, number_of, values_of, left_by}
 use Rattle.strings.specs.declared.refusal.Refusal.{Refusal}
-use Rattle.strings.specs.declared.refusal.Answer.TheVariants.{Done, Refused}
 use Rattle.layout.specs.Layout.{used, passes}
 use Rattle.hch.specs.Hch.{behind_first, enciphered, deciphered, hch}
 use Rattle.hch.specs.Call.{answer_of}
 use Rattle.pack.specs.Sealing.{answer_of as answer_of_sealing}
-use Rattle.pack.specs.Opening.{number_of as number_of_opening, values_of as values_of_opening, deciphered_block, answer_of as answer_of_opening}
+use Rattle.pack.specs.Opening.{Opened, values_of as values_of_opening, deciphered_block, answer_of as answer_of_opening}
 use Rattle.line.specs.Line.{Encipher, Decipher, Unknown, request_of, refusal, reply, answer}
-use Rattle.pack.specs.declared.opening.Opened.TheVariants.{Refused as NotOpened}
 
 -- A key has 16 bytes, or, by Point 3 of 02, 32.
 abbrev pub IsKey : List ℕ → Type 0
@@ -27,7 +25,7 @@ abbrev pub of_sealing : (S : Scheme) (key payload : List ℕ) (place : ℕ) (blo
 of_sealing S key payload place block = number_of (answer_of_sealing S key payload place block)
 
 abbrev pub of_opening : (S : Scheme) (key : List ℕ) (pack place : ℕ) (block : List ℕ) → ℕ
-of_opening S key pack place block = number_of_opening (answer_of_opening S key pack place block)
+of_opening S key pack place block = number_of (answer_of_opening S key pack place block)
 
 -- "HCH looks at 1, 2, 3, 4 in this order", said of any scheme's calls on messages: `number` is theirs, `least` the length that a message has at least, and
 -- `short` the number for a shorter one. A number does not go by what is looked at after it.
@@ -102,8 +100,8 @@ pub record Demand1 : Type 0 where
   -- The lent bytes are left by every number but 0.
   pub refused_left : (number : ℕ) (work lent : List ℕ) → 0 < number → left_by number work lent ≡ lent
   -- A refusal is its number, and no value stands beside it, in the calls on messages and sealing and in opening.
-  pub refused_alone : (why : Refusal) → (number_of (Refused why) ≡ refusal_number why) × (values_of (Refused why) ≡ [])
-  pub not_opened_alone : (why : Refusal) → (number_of_opening (NotOpened why) ≡ refusal_number why) × (values_of_opening (NotOpened why) ≡ [])
+  pub refused_alone : (why : Refusal) → let answer : Answer = Err why in (number_of answer ≡ refusal_number why) × (values_of answer ≡ [])
+  pub not_opened_alone : (why : Refusal) → let answer : Opened = Err why in (number_of answer ≡ refusal_number why) × (values_of_opening answer ≡ [])
   -- A call that was done leaves its work. The calls on messages and sealing then return nothing beside 0.
   pub done_left : (work lent : List ℕ) → left_by 0 work lent ≡ work
-  pub done_alone : (number_of Done ≡ 0) × (values_of Done ≡ [])
+  pub done_alone : let answer : Answer = Ok tt in (number_of answer ≡ 0) × (values_of answer ≡ [])

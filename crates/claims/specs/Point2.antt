@@ -1,5 +1,5 @@
 -- Point 2 of 02, "Seal and open a shelf of blocks in one call", sentence by sentence. proofs/Point2.antt has one value of the record.
-use Rattle.std.specs.Prelude.{ℕ, ◌+◌, ◌-◌, ◌*◌, ◌^◌, ◌≤◌, ◌<◌, ◌≡◌, List, [], ◌∷◌, ◌⊎◌, length, get_or, take, replicate}
+use Rattle.std.specs.Prelude.{Ok, Err, ℕ, ◌+◌, ◌-◌, ◌*◌, ◌^◌, ◌≤◌, ◌<◌, ◌≡◌, List, [], ◌∷◌, ◌⊎◌, length, get_or, take, replicate}
 use Rattle.strings.specs.Bytes.{Bytes, OfLength, bytes}
 use Rattle.strings.specs.Call.{number_of, left_by}
 use Rattle.strings.specs.One.{ExactlyOne, count}
@@ -7,12 +7,12 @@ use Rattle.strings.specs.declared.refusal.Refusal.{Refusal}
 use Rattle.layout.specs.Finding.{block_count, part, with_part}
 use Rattle.hch.specs.Hch.{hch}
 use Rattle.pack.specs.Sealing.{seal, answer_of as answer_of_block_sealing}
-use Rattle.pack.specs.Opening.{number_of as number_of_block, values_of as values_of_block, deciphered_block, answer_of as answer_of_block_opening}
+use Rattle.pack.specs.Opening.{values_of as values_of_block, deciphered_block, answer_of as answer_of_block_opening}
 use Rattle.runs.specs.Run.{one_by_one, OrderOf}
 use Rattle.runs.specs.Sealing.{sealed_run, answer_of as answer_of_sealing}
 use Rattle.runs.specs.Opening.{number_of as number_of_opening, values_of, failed_place, deciphered_run, used_lengths, lengths_of, answer_of as answer_of_opening, run_left, list_left, opens_to}
 use Rattle.runs.specs.Theorems.{Runs}
-use Rattle.runs.specs.declared.opening.RunOpened.TheVariants.{Done, Refused, Failed}
+use Rattle.runs.specs.declared.opening.NotOpened.TheVariants.{Refused, Failed}
 use Rattle.claims.specs.Demand1.{IsKey}
 use Rattle.claims.specs.Point1.{IsPack}
 
@@ -24,7 +24,7 @@ abbrev pub of_opening : (key : List ℕ) (pack first : ℕ) (lengths run : List 
 of_opening key pack first lengths run = number_of_opening (answer_of_opening hch key pack first lengths run)
 
 abbrev pub of_block : (key : List ℕ) (pack first : ℕ) (run : List ℕ) (i : ℕ) → ℕ
-of_block key pack first run i = number_of_block (answer_of_block_opening hch key pack (first + i) (part i run))
+of_block key pack first run i = number_of (answer_of_block_opening hch key pack (first + i) (part i run))
 
 -- What is lent passes the tests up to number 11: a key, n blocks, and a list as long.
 abbrev pub Lent : (key : List ℕ) (n : ℕ) (lengths run : List ℕ) → Type 0
@@ -90,9 +90,9 @@ pub record Point2 : Type 0 where
   pub open_done : (key : List ℕ) (n pack first : ℕ) (lengths run : List ℕ) → Lent key n lengths run → first + n - 1 ≤ 65535
       → ((i : ℕ) → i < n → of_block key pack first run i ≡ 0) → of_opening key pack first lengths run ≡ 0
   -- No other answer comes with a place, and the app's number is written with a place alone.
-  pub no_place : (values_of Done ≡ []) × ((why : Refusal) → values_of (Refused why) ≡ [])
-  pub place_written : (lent : ℕ) → (failed_place Done lent ≡ lent) × ((why : Refusal) → failed_place (Refused why) lent ≡ lent)
-      × ((why : Refusal) (place : ℕ) → failed_place (Failed why place) lent ≡ place)
+  pub no_place : (values_of (Ok tt) ≡ []) × ((why : Refusal) → values_of (Err (Refused why)) ≡ [])
+  pub place_written : (lent : ℕ) → (failed_place (Ok tt) lent ≡ lent) × ((why : Refusal) → failed_place (Err (Refused why)) lent ≡ lent)
+      × ((why : Refusal) (place : ℕ) → failed_place (Err (Failed why place)) lent ≡ place)
   -- "If one block will not open, the whole run and the list stay unchanged", as with every other number.
   pub unopened_left : (key : List ℕ) (pack first : ℕ) (lengths run : List ℕ) → 0 < of_opening key pack first lengths run
       → (run_left hch key pack first lengths run ≡ run) × (list_left hch key pack first lengths run ≡ lengths)
@@ -116,7 +116,7 @@ pub record Point2 : Type 0 where
   -- And the run is what these calls leave, in any order of the blocks.
   pub opened_one_by_one : (key : List ℕ) (pack first : ℕ) (lengths run : List ℕ) → IsKey key → Bytes run
       → of_opening key pack first lengths run ≡ 0 → (order : List ℕ) → OrderOf (block_count run) order
-      → one_by_one (λ i C. left_by (number_of_block (answer_of_block_opening hch key pack (first + i) C)) (deciphered_block hch key pack (first + i) C) C) order run
+      → one_by_one (λ i C. left_by (number_of (answer_of_block_opening hch key pack (first + i) C)) (deciphered_block hch key pack (first + i) C) C) order run
       ≡ deciphered_run hch key pack first run
   -- ---- "If a run opens, and still opens after one block's bytes are changed, that change does not alter what the others open to."
   pub others_open : (key : List ℕ) (pack first : ℕ) (lengths run : List ℕ) → IsKey key → Bytes run → of_opening key pack first lengths run ≡ 0

@@ -2,12 +2,12 @@
 -- bytes decide between 8 and 12 is in Demand1.antt, `open_8` and `open_12` of OpeningNumbers.
 use Rattle.std.specs.Prelude.{ℕ, ◌+◌, ◌-◌, ◌≤◌, ◌<◌, ◌≡◌, true, List, [], ◌∷◌, ◌++◌, replicate}
 use Rattle.strings.specs.Bytes.{Bytes, OfLength}
-use Rattle.strings.specs.Call.{left_by}
+use Rattle.strings.specs.Call.{number_of, left_by}
 use Rattle.strings.specs.Cipher.{Scheme}
 use Rattle.layout.specs.Layout.{used, passes}
 use Rattle.layout.specs.Finding.{part}
 use Rattle.hch.specs.Hch.{hch}
-use Rattle.pack.specs.Opening.{number_of, values_of, deciphered_block, answer_of}
+use Rattle.pack.specs.Opening.{values_of, deciphered_block, answer_of}
 use Rattle.runs.specs.Opening.{number_of as number_of_run, values_of as values_of_run, answer_of as answer_of_run}
 use Rattle.claims.specs.Demand1.{IsKey, of_opening}
 use Rattle.claims.specs.Point2.{of_opening as of_run, of_block, Lent, EightOrTwelve, NoneSealsTo, NoneSeals, EarlierOpen}

@@ -15,7 +15,6 @@ use Rattle.line.specs.Line.{refusal, reply}
 
 -- The answer of the call is the scheme's, as `hch` has it.
 pub called : (key tweak message : List ℕ) {a : Answer} → a ≡ looks_at (Message.tests hch 16 TooShort key tweak message) → answer_of key tweak message ≡ a
-unfolding tests
 called key tweak message e = sym e
 
 pub refused : (a : Answer) (why : Refusal) (work : List ℕ) → a ≡ Err why → reply (number_of a) work ≡ refusal (refusal_number why)

@@ -4,13 +4,14 @@ use Rattle.std.proofs.Common.{◌≡◌, ℕ, zero, suc, ◌+◌, ◌-◌, ◌*�
 use native.Mathlib.Nat.{mul-add-div, mul-add-mod_self_left, div-eq_of_lt}
 use lib.ListN.{length-replicate, get_or-append}
 use lib.Seq.{set_at}
+use Rattle.std.specs.Int.{w32, from_be_bytes}
 use Rattle.strings.specs.Xor.{◌⊕◌, xor_bytes}
 use Rattle.strings.specs.Bytes.{Bytes, number, bytes}
 use Rattle.blocks.specs.Field.{power}
 use Rattle.primitives.specs.Aes.{◌•◌, word, byte_of, rot_word, sub_word, rcon, choose, temp, own_word, key_word, key_words}
 use Rattle.strings.specs.Inner.{padded}
 use Rattle.strings.proofs.Xor.{xor_zero}
-use Rattle.strings.proofs.Bytes.{length-bytes, bytes_below, bytes-number, bytes_xor}
+use Rattle.strings.proofs.Bytes.{length-bytes, bytes_below, bytes-number, bytes_xor, be_number}
 use Rattle.strings.proofs.Place.{number_fits}
 
 pub byte_of_below : (w i : ℕ) → byte_of w i < 256
@@ -126,3 +127,8 @@ groups Nk zero m four h e own end = absurd (omega (arith, mul-zero Nk))
 groups Nk (suc j) m four h e own end =
     let few : suc j < 11 = lt_of_not-le (λ (over : 11 ≤ suc j). omega (arith, mul-le-mul_left Nk over)) in
     (omega arith, omega arith)
+
+-- What std makes of four bytes is their word.
+pub be_word : (a b c d : ℕ) → from_be_bytes w32 (a ∷ b ∷ c ∷ d ∷ []) ≡ word a b c d
+unfolding word
+be_word a b c d = be_number (a ∷ b ∷ c ∷ d ∷ [])

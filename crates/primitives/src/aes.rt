@@ -1,5 +1,5 @@
 // AES of FIPS 197 on blocks, with keys of 16 or 32 bytes, and two counter modes on lent bytes.
-ghost use Rattle.std.specs.Prelude.{◌≡◌, ◌+◌, ◌-◌, ◌*◌, ◌/◌, ◌<◌, ◌≤◌, ◌++◌, drop, replicate};
+ghost use Rattle.std.specs.Prelude.{◌≡◌, ◌+◌, ◌-◌, ◌*◌, ◌^◌, ◌<◌, ◌≤◌, ◌++◌, drop, replicate};
 ghost use Rattle.strings.specs.Xor.{◌⊕◌};
 ghost use Rattle.strings.specs.Bytes.{bytes};
 ghost use Rattle.strings.specs.Inner.{overwrite};
@@ -7,14 +7,14 @@ ghost use Rattle.blocks.specs.Blocks.{bin, first_block};
 ghost use Rattle.blocks.specs.BlockField.{times_x};
 ghost use Rattle.blocks.specs.Counter.{masked_bytes, φ};
 ghost use Rattle.blocks.specs.Inner.{value};
-ghost use Rattle.primitives.specs.Inner.{Table, CipherTable, InvCipherTables, of_columns, HasRoundKeys};
-ghost use Rattle.primitives.specs.Aes.{s_box, sub_word, rcon, temp, key_words, round_key, cipher, inv_cipher, encipher, is_key};
+ghost use Rattle.primitives.specs.Inner.{Table, of_columns};
+ghost use Rattle.primitives.specs.Aes.{s_box, sub_word, rcon, temp, key_words, round_key, cipher, inv_cipher, is_key};
 ghost use Rattle.primitives.specs.Expanded.{held_words, expansion_of, rounds_done, under};
 
-use crate::{field, inv_mixing, inv_sbox, mixed_sbox, sbox, state};
+use crate::{field, sbox, state};
 use blocks::block::Block;
+use strings::number;
 use strings::refusal::{Refusal, refuse_if};
-use strings::{number, places};
 
 // The first bytes of Rcon, 5.2.
 const RCON: [u8; 10] = [0x01, 0x02, 0x04, 0x08, 0x10, 0x20, 0x40, 0x80, 0x1b, 0x36];
@@ -31,12 +31,13 @@ fn sub_word(table: &state::Table, w: u32) -> u32
     requires { Table s_box table.now }
     ensures { result ≡ sub_word w }
 {
-    number::word(
-        places::entry(table, number::byte(w, 0)),
-        places::entry(table, number::byte(w, 1)),
-        places::entry(table, number::byte(w, 2)),
-        places::entry(table, number::byte(w, 3)),
-    )
+    let [a, b, c, d] = w.to_be_bytes();
+    u32::from_be_bytes([
+        table[a as usize],
+        table[b as usize],
+        table[c as usize],
+        table[d as usize],
+    ])
 }
 
 // Rcon[j].
@@ -44,7 +45,7 @@ fn round_constant(j: usize) -> u32
     requires { (1 ≤ j) × (j ≤ 10) }
     ensures { result ≡ rcon j }
 {
-    number::word(RCON[j - 1], 0, 0, 0)
+    u32::from_be_bytes([RCON[j - 1], 0, 0, 0])
 }
 
 // Where the word Nk * j + m stands. Both numbers are counted, since two divisions for each word take a third of the time.
@@ -109,7 +110,7 @@ fn key_expansion(key: &[u8], nk: usize) -> state::Words
     let mut w = words[nk - 1];
     let mut place = Place { j: 1, m: 0 };
     for i in nk..4 * (nk + 7) {
-        w = words[i - nk] ^ temp(&table, nk, place, w);
+        w = words[i - nk] ^ temp(table, nk, place, w);
         words[i] = w;
         let behind = next_place(nk, place);
         place = behind;
@@ -122,83 +123,6 @@ pub fn is_key(key: &[u8]) -> bool
     ensures { result ≡ is_key key.now }
 {
     key.len() == 16 || key.len() == 32
-}
-
-// Cipher, 5.1, by the table that is lent.
-fn cipher(
-    mixed: &state::Mixing,
-    words: &state::Words,
-    rounds: usize,
-    w: state::Columns,
-) -> state::Columns
-    requires { CipherTable mixed.now × HasRoundKeys rounds }
-    ensures { of_columns result ≡ cipher (round_key words.now) rounds (of_columns w) }
-{
-    let mut t = state::add_round_key(words, 0, w);
-    for n in 1..rounds {
-        let next = state::round(mixed, words, n, t);
-        t = next;
-    }
-    state::last_round(mixed, words, rounds, t)
-}
-
-// E of a block, by the table that is lent.
-fn encipher_by(mixed: &state::Mixing, words: &state::Words, rounds: usize, block: Block) -> Block
-    requires { CipherTable mixed.now × HasRoundKeys rounds }
-    ensures { value result ≡ encipher rounds words.now (value block) }
-{
-    Block::from_words(cipher(mixed, words, rounds, block.to_words()))
-}
-
-// Adds E(s ⊕ bin(at / 16 + 1)) to the block at `at`, cut where `message` ends.
-fn mask_block(
-    mixed: &state::Mixing,
-    words: &state::Words,
-    rounds: usize,
-    s: Block,
-    message: &mut [u8],
-    at: usize,
-)
-    requires { CipherTable mixed.now × HasRoundKeys rounds }
-    ensures { message.new ≡ overwrite at (bytes 16 (first_block (drop at message.old) ⊕ encipher rounds words.now (value s ⊕ bin (at / 16 + 1)))) message.old }
-{
-    encipher_by(mixed, words, rounds, s.xor_bin(at / 16 + 1)).add_to(message, at);
-}
-
-// Adds E(input) to the block at `at`, cut where `message` ends. A function of its own beside `mask_block`, so that each is called in one place and the
-// compiler puts it into its loop.
-fn add_mask(
-    mixed: &state::Mixing,
-    words: &state::Words,
-    rounds: usize,
-    input: Block,
-    message: &mut [u8],
-    at: usize,
-)
-    requires { CipherTable mixed.now × HasRoundKeys rounds }
-    ensures { message.new ≡ overwrite at (bytes 16 (first_block (drop at message.old) ⊕ encipher rounds words.now (value input))) message.old }
-{
-    let masked = Block::read(message, at).xor(encipher_by(mixed, words, rounds, input));
-    masked.write(message, at);
-}
-
-// InvCipher, 5.3, by the tables that are lent: the round keys backwards.
-fn inv_cipher(
-    table: &state::Table,
-    mixing: &state::Mixing,
-    words: &state::Words,
-    rounds: usize,
-    w: state::Columns,
-) -> state::Columns
-    requires { InvCipherTables table.now mixing.now × HasRoundKeys rounds }
-    ensures { of_columns result ≡ inv_cipher (round_key words.now) rounds (of_columns w) }
-{
-    let mut t = state::add_round_key(words, rounds, w);
-    for j in 1..rounds {
-        let next = state::inv_round(table, mixing, words, rounds - j, t);
-        t = next;
-    }
-    state::inv_last_round(table, words, 0, t)
 }
 
 // The number of rounds that are done: at least two, and no more than there are round keys.
@@ -228,44 +152,44 @@ impl ExpandedKey {
         })
     }
 
+    // Cipher, 5.1.
+    fn cipher(&self, w: state::Columns) -> state::Columns
+        ensures { of_columns result ≡ cipher (round_key self.now.words) (rounds_done self.now.rounds) (of_columns w) }
+    {
+        let rounds = rounds_done(self.rounds);
+        let mut t = state::add_round_key(&self.words, 0, w);
+        for n in 1..rounds {
+            let next = state::round(&self.words, n, t);
+            t = next;
+        }
+        state::last_round(&self.words, rounds, t)
+    }
+
+    // InvCipher, 5.3: the round keys backwards.
+    fn inv_cipher(&self, w: state::Columns) -> state::Columns
+        ensures { of_columns result ≡ inv_cipher (round_key self.now.words) (rounds_done self.now.rounds) (of_columns w) }
+    {
+        let rounds = rounds_done(self.rounds);
+        let mut t = state::add_round_key(&self.words, rounds, w);
+        for n in (1..rounds).rev() {
+            let next = state::inv_round(&self.words, n, t);
+            t = next;
+        }
+        state::inv_last_round(&self.words, 0, t)
+    }
+
+    // E of a block, of a key that is lent. A function of its own beside `encipher`, so that the compiler puts `cipher` into it: it is called in one place.
+    fn enciphered(&self, block: Block) -> Block
+        ensures { value result ≡ (under self.now).E (value block) }
+    {
+        Block::from_words(self.cipher(block.to_words()))
+    }
+
     // E of a block.
     pub fn encipher(self, block: Block) -> Block
         ensures { value result ≡ (under self).E (value block) }
     {
-        let mixed = mixed_sbox::table();
-        let words = self.words;
-        encipher_by(&mixed, &words, rounds_done(self.rounds), block)
-    }
-
-    // Counter mode on lent bytes, block by block where they stand, the last cut as it was: E(s ⊕ bin(i)) is added to block i, from 1 on. The
-    // table is stored once.
-    pub fn counter(self, s: Block, message: &mut [u8])
-        ensures { message.new ≡ masked_bytes (λ i. (under self).E (value s ⊕ bin i)) 1 message.old }
-    {
-        let mixed = mixed_sbox::table();
-        let words = self.words;
-        let rounds = rounds_done(self.rounds);
-        let mut at = 0;
-        while at < message.len() {
-            mask_block(&mixed, &words, rounds, s, message, at);
-            at += 16;
-        }
-    }
-
-    // The modified counter mode of 000 on lent bytes, in the same way: E(x^i β ⊕ s) is added to block i, from 0 on.
-    pub fn modified_counter(self, beta: Block, s: Block, message: &mut [u8])
-        ensures { message.new ≡ masked_bytes (λ i. (under self).E (φ times_x (value beta) i ⊕ value s)) 0 message.old }
-    {
-        let mixed = mixed_sbox::table();
-        let words = self.words;
-        let rounds = rounds_done(self.rounds);
-        let mut phi = beta;
-        let mut at = 0;
-        while at < message.len() {
-            add_mask(&mixed, &words, rounds, phi.xor(s), message, at);
-            phi = field::times_x(phi);
-            at += 16;
-        }
+        self.enciphered(block)
     }
 
     // D of a block.
@@ -273,10 +197,34 @@ impl ExpandedKey {
     pub fn decipher(self, block: Block) -> Block
         ensures { value result ≡ (under self).D (value block) }
     {
-        let table = inv_sbox::table();
-        let mixing = inv_mixing::table();
-        let words = self.words;
-        let rounds = rounds_done(self.rounds);
-        Block::from_words(inv_cipher(&table, &mixing, &words, rounds, block.to_words()))
+        Block::from_words(self.inv_cipher(block.to_words()))
+    }
+
+    // Adds E(input) to block i, cut where `message` ends.
+    fn mask(&self, input: Block, message: &mut [u8], i: usize)
+        requires { 16 * i < 2 ^ 64 }
+        ensures { message.new ≡ overwrite (16 * i) (bytes 16 (first_block (drop (16 * i) message.old) ⊕ (under self.now).E (value input))) message.old }
+    {
+        self.enciphered(input).add_to(message, 16 * i);
+    }
+
+    // Counter mode on lent bytes, block by block where they stand, the last cut as it was: E(s ⊕ bin(i)) is added to block i, from 1 on.
+    pub fn counter(self, s: Block, message: &mut [u8])
+        ensures { message.new ≡ masked_bytes (λ i. (under self).E (value s ⊕ bin i)) 1 message.old }
+    {
+        for i in 0..message.len().div_ceil(16) {
+            self.mask(s.xor_bin(i + 1), message, i);
+        }
+    }
+
+    // The modified counter mode of 000 on lent bytes, in the same way: E(x^i β ⊕ s) is added to block i, from 0 on.
+    pub fn modified_counter(self, beta: Block, s: Block, message: &mut [u8])
+        ensures { message.new ≡ masked_bytes (λ i. (under self).E (φ times_x (value beta) i ⊕ value s)) 0 message.old }
+    {
+        let mut phi = beta;
+        for i in 0..message.len().div_ceil(16) {
+            self.mask(phi.xor(s), message, i);
+            phi = field::times_x(phi);
+        }
     }
 }

@@ -40,8 +40,8 @@ pub fn product(a: Block, b: Block) -> Block
 fn two_steps(r: Block, r2: Block, sum: Block, s: &[u8]) -> Block
     ensures { value result ≡ (value sum ⊕ first_block s.now) · value r2 ⊕ first_block (drop 16 s.now) · value r }
 {
-    let next = block::read_two(s);
-    reduction::reduced(unreduced::two_products(sum.xor(next.first), r2, next.second, r))
+    let [first, second] = block::read_all::<2>(s);
+    reduction::reduced(unreduced::two_products(sum.xor(first), r2, second, r))
 }
 
 // Horner's rule two blocks at a time, as far as there are two whole blocks: what it makes of the sum and of what is left is what it makes of

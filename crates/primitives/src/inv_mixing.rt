@@ -1,11 +1,10 @@
-// InvMixColumns, FIPS 197, 5.3.3: for each byte the column that it adds from row 0, 0e, 09, 0d and 0b times the byte. Handed out whole, as
-// the S-box is.
+// InvMixColumns, FIPS 197, 5.3.3: for each byte the column that it adds from row 0, 0e, 09, 0d and 0b times the byte.
 ghost use Rattle.primitives.specs.Inner.{MixingTable};
 ghost use Rattle.primitives.specs.Aes.{◌•◌};
 
 use crate::state;
 
-const INV_MIXING: [u32; 256] = [
+static INV_MIXING: [u32; 256] = [
     0x00000000, 0x0e090d0b, 0x1c121a16, 0x121b171d, 0x3824342c, 0x362d3927, 0x24362e3a, 0x2a3f2331,
     0x70486858, 0x7e416553, 0x6c5a724e, 0x62537f45, 0x486c5c74, 0x4665517f, 0x547e4662, 0x5a774b69,
     0xe090d0b0, 0xee99ddbb, 0xfc82caa6, 0xf28bc7ad, 0xd8b4e49c, 0xd6bde997, 0xc4a6fe8a, 0xcaaff381,
@@ -40,8 +39,8 @@ const INV_MIXING: [u32; 256] = [
     0xa779b492, 0xa970b999, 0xbb6bae84, 0xb562a38f, 0x9f5d80be, 0x91548db5, 0x834f9aa8, 0x8d4697a3,
 ];
 
-pub(crate) fn table() -> state::Mixing
-    ensures { MixingTable (λ b. 0x0e • b) (λ b. 0x0b • b) (λ b. 0x0d • b) (λ b. 0x09 • b) result }
+pub(crate) fn table() -> &'static state::Mixing
+    ensures { MixingTable (λ b. 0x0e • b) (λ b. 0x0b • b) (λ b. 0x0d • b) (λ b. 0x09 • b) result.now }
 {
-    INV_MIXING
+    &INV_MIXING
 }

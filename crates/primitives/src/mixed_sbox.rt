@@ -1,10 +1,10 @@
 // MixColumns of the S-box, FIPS 197, 5.1.1 and 5.1.3: for each byte the column that its entry adds from row 0, 02, 01, 01 and 03 times
-// that entry. Handed out whole, as the S-box is.
+// that entry.
 ghost use Rattle.primitives.specs.Inner.{CipherTable};
 
 use crate::state;
 
-const MIXED_SBOX: [u32; 256] = [
+static MIXED_SBOX: [u32; 256] = [
     0xc66363a5, 0xf87c7c84, 0xee777799, 0xf67b7b8d, 0xfff2f20d, 0xd66b6bbd, 0xde6f6fb1, 0x91c5c554,
     0x60303050, 0x02010103, 0xce6767a9, 0x562b2b7d, 0xe7fefe19, 0xb5d7d762, 0x4dababe6, 0xec76769a,
     0x8fcaca45, 0x1f82829d, 0x89c9c940, 0xfa7d7d87, 0xeffafa15, 0xb25959eb, 0x8e4747c9, 0xfbf0f00b,
@@ -39,8 +39,8 @@ const MIXED_SBOX: [u32; 256] = [
     0x824141c3, 0x299999b0, 0x5a2d2d77, 0x1e0f0f11, 0x7bb0b0cb, 0xa85454fc, 0x6dbbbbd6, 0x2c16163a,
 ];
 
-pub(crate) fn table() -> state::Mixing
-    ensures { CipherTable result }
+pub(crate) fn table() -> &'static state::Mixing
+    ensures { CipherTable result.now }
 {
-    MIXED_SBOX
+    &MIXED_SBOX
 }

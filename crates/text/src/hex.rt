@@ -9,7 +9,7 @@ pub fn encode(bytes: &[u8], out: &mut [u8]) -> usize
     ensures value { result ≡ 2 * fitting bytes.now out.old }
     ensures out_after { out.new ≡ encoded_in bytes.now out.old }
 {
-    let n = strings::places::least(bytes.len(), out.len() / 2);
+    let n = bytes.len().min(out.len() / 2);
     for i in 0..n {
         let b = bytes[i];
         let k = 2 * i;

@@ -4,7 +4,8 @@ ghost use Rattle.std.specs.Prelude.{◌≡◌, Some, replicate, option_map};
 ghost use Rattle.text.specs.Inner.{line_with, kept_with, line_of, is_empty};
 
 // The line under way: its characters stand at the front of `chars`, and `kept` says how many they
-// are, or `None` where the line is too long for `chars`, as it then stays.
+// are, or `None` where the line is too long for `chars`, as it then stays. A number past the end of
+// `chars` is kept of no line.
 #[derive(Clone, Copy)]
 pub struct LineBuffer<const N: usize> {
     pub chars: [u8; N],
@@ -53,8 +54,8 @@ impl<const N: usize> LineBuffer<N> {
     }
 }
 
-// A line goes on with `more`, in the first `kept` characters of a slice of any length, as that of a
-// `LineBuffer` does. What has no room is dropped.
+// The line whose first `kept` characters stand in `line` goes on with `more`; what has no room is
+// dropped. The two are no `LineBuffer` here, since this is promised of a slice of any length.
 pub fn append(line: &mut [u8], kept: Option<usize>, more: &[u8]) -> Option<usize>
     ensures value { result ≡ kept_with line.old kept more.now }
     ensures line_after { line.new ≡ line_with line.old kept more.now }

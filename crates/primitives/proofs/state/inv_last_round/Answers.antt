@@ -10,5 +10,5 @@ returns c =
     let a = c.args in
     c.add_round_key.ensures
     ∙ ap (add_round_key (round_key a.words.now a.n))
-    (columns_words c.from_bytes.result ∙ c.from_bytes.ensures ∙ c.inv_sub_bytes.ensures inv_s_box c.requires.0
+    (columns_words c.from_bytes.result ∙ c.from_bytes.ensures ∙ c.inv_sub_bytes.ensures inv_s_box c.table.ensures
     ∙ ap inv_sub_bytes (c.inv_shift_rows.ensures ∙ ap inv_shift_rows (c.to_bytes.ensures ∙ sym (columns_words a.w))))

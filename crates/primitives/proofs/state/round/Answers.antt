@@ -12,7 +12,7 @@ returns c =
     let next : ℕ → ℕ = λ b. 0x03 • s_box b in
     c.add_round_key.ensures
     ∙ ap (add_round_key (round_key a.words.now a.n))
-    (c.mix_columns.ensures own next s_box s_box c.requires.0
+    (c.mix_columns.ensures own next s_box s_box c.table.ensures
     ∙ ap (mixing own next s_box s_box)
     (columns_words c.from_bytes.result ∙ c.from_bytes.ensures ∙ c.shift_rows.ensures ∙ ap shift_rows (c.to_bytes.ensures ∙ sym (columns_words a.w)))
     ∙ sub_mixed (of_columns a.w))

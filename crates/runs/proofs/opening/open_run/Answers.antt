@@ -45,7 +45,7 @@ open_blocks-requires g c =
     let a = c.args in
     let S = g.S.Scheme.scheme in
     let known = admitted S a.key.now a.start.place a.lengths.now a.run.now (made _ _ KeyLength c.expand.ensures.value c.in_ok-expanded.was)
-        (sym c.judge.ensures ∙ c.in_ok-judge.was) in
+    (sym c.judge.ensures ∙ c.in_ok-judge.was) in
     in_range S a.key.now a.start.place a.lengths.now a.run.now known
 
 pub returns-in_err-open_blocks : goal.returns-in_err-open_blocks
@@ -67,7 +67,7 @@ returns-in_err-open_blocks g c =
     let e = handed ∙ answered same pack first lengths run known o in
     let l : c.open_blocks.new.run ≡ left_by (number_of answer) (deciphered_run S key pack first run) run = rw handed (left same pack first lengths run known o) in
     let list : lengths ≡ left_by (number_of answer) (used_lengths S key pack first run) lengths =
-        rw (handed ∙ refused) (refusal_leaves (why_of c.in_err-open_blocks.field-0.0) (used_lengths S key pack first run) lengths) in
+    rw (handed ∙ refused) (refusal_leaves (why_of c.in_err-open_blocks.field-0.0) (used_lengths S key pack first run) lengths) in
     record {
       value = e;
       run_after = l;
@@ -106,7 +106,7 @@ returns g c =
     let e = answered same pack first lengths run known o in
     let l : c.open_blocks.new.run ≡ deciphered_run S key pack first run = left same pack first lengths run known o in
     let read : blockwise (λ i B. used B ∷ []) (length lengths) (deciphered_run S key pack first run) ≡ used_lengths S key pack first run =
-        rw known.list_length (lengths_read S key cipher pack first run bytes) in
+    rw known.list_length (lengths_read S key cipher pack first run bytes) in
     let list : c.put_lengths.new.lengths ≡ used_lengths S key pack first run = rw (c.put_lengths.ensures, l) read in
     record {
       value = e;

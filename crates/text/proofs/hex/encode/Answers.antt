@@ -20,7 +20,7 @@ pub loop-i-preserved : goal.loop-i-preserved
 loop-i-preserved c =
     let a = c.args in
     let i = c.loop-i.i in
-    let h = within i c.least-n.result (length a.bytes.now) (length a.out.now) c.least-n.ensures c.loop-i-test.true in
+    let h = within i c.min-n.result (length a.bytes.now) (length a.out.now) c.min-n.ensures c.loop-i-test.true in
     let high : c.digit_of.result ≡ digit (get_or a.bytes.now i 0 / 16) = c.digit_of.ensures in
     let low : c.digit_of-in-loop-i.result ≡ digit (get_or a.bytes.now i 0 % 16) = c.digit_of-in-loop-i.ensures in
     rw (c.loop-i.invariant, high, low) (hex_store a.bytes.now a.out.now i h.0 h.1)
@@ -28,5 +28,5 @@ loop-i-preserved c =
 pub returns : goal.returns
 unfolding fitting encoded_in
 returns c =
-    let n : c.loop-i.i ≡ c.least-n.result = omega arith in
-    record { value = omega arith; out_after = rw (← c.least-n.ensures, ← n) c.loop-i.invariant }
+    let n : c.loop-i.i ≡ c.min-n.result = omega arith in
+    record { value = omega arith; out_after = rw (← c.min-n.ensures, ← n) c.loop-i.invariant }

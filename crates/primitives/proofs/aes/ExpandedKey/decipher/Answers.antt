@@ -10,4 +10,4 @@ unfolding decipher
 returns c =
     let a = c.args in
     through_columns (inv_cipher (round_key a.self.words) (rounds_done a.self.rounds)) (value a.block) (value c.from_words.result) c.to_words.result c.inv_cipher.result
-    c.to_words.ensures (rw c.rounds_done-rounds.ensures at c.inv_cipher.ensures) c.from_words.ensures
+    c.to_words.ensures c.inv_cipher.ensures c.from_words.ensures
