@@ -5,13 +5,13 @@ use Rattle.strings.specs.Bytes.{bytes}
 use Rattle.blocks.specs.Blocks.{blocks}
 use Rattle.blocks.specs.Counter.{masked_bytes, φ}
 use Rattle.blocks.specs.Inner.{value}
-use Rattle.blocks.specs.declared.block.Pair.{Pair}
+use Rattle.blocks.specs.declared.block.Block.{Block}
 use Rattle.forward.specs.Forward.{HashKey, Υ}
 use Rattle.forward.specs.declared.Key.{Key}
 
 -- The blocks that the code's two stand for, and the hash key that its own stands for.
-abbrev pub values : Pair → ℕ × ℕ
-values p = (value p.first, value p.second)
+abbrev pub values : Block × Block → ℕ × ℕ
+values p = (value p.0, value p.1)
 
 abbrev pub hash_key : Key → HashKey
 hash_key k = record { τ = value k.tau; τ' = value k.tau_prime; β₁ = value k.beta1; β₂ = value k.beta2 }

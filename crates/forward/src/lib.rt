@@ -15,7 +15,7 @@ ghost use Rattle.forward.specs.Inner.{values, hash_key, from_m};
 ghost use Rattle.forward.specs.Call.{tests_behind_key, answer_of, answer_behind_key};
 ghost use Rattle.forward.specs.Expanded.{forward_under};
 
-use blocks::block::{Block, Pair};
+use blocks::block::Block;
 use primitives::aes::ExpandedKey;
 use primitives::field;
 use strings::message;
@@ -54,71 +54,64 @@ fn key_def1(expanded: ExpandedKey, tweak: Block, length: usize) -> Key
     }
 }
 
-// The first two blocks. `block::read_two` reads two as well, but is called in one place, the loop of the hash, so that the compiler puts it there.
-fn first_two(message: &[u8]) -> Pair
+// The first two blocks. `block::read_all` reads them as well, but for two it is called in one place, the loop of the hash, so that the compiler puts it there.
+fn first_two(message: &[u8]) -> (Block, Block)
     ensures { values result ≡ (first_block message.now, first_block (drop 16 message.now)) }
 {
-    Pair {
-        first: Block::read(message, 0),
-        second: Block::read(message, 16),
-    }
+    (Block::read(message, 0), Block::read(message, 16))
 }
 
 // Formula (1), with β added to both blocks: the two by themselves, the others where they stand in `message`, behind the first 32 bytes.
-fn hash(tau: Block, beta: Block, two: Pair, message: &[u8]) -> Pair
+fn hash(tau: Block, beta: Block, two: (Block, Block), message: &[u8]) -> (Block, Block)
     requires { 32 ≤ length message.now }
-    ensures { values result ≡ Υ power_sum (value tau) (value two.first ⊕ value beta) (value two.second ⊕ value beta) (blocks (behind_two message.now)) }
+    ensures { values result ≡ Υ power_sum (value tau) (value two.0 ⊕ value beta) (value two.1 ⊕ value beta) (blocks (behind_two message.now)) }
 {
     let z = field::power_sum(tau, &message[32..]);
-    Pair {
-        first: two.first.xor(beta).xor(z),
-        second: two.second.xor(beta).xor(z),
-    }
+    (two.0.xor(beta).xor(z), two.1.xor(beta).xor(z))
 }
 
 // Table 2. The hash of one block is its product with τ'.
-fn feistel(expanded: ExpandedKey, tau_prime: Block, a1: Block, a2: Block) -> Pair
+fn feistel(expanded: ExpandedKey, tau_prime: Block, a1: Block, a2: Block) -> (Block, Block)
     ensures { values result ≡ Feistel (under expanded).E power_sum (value tau_prime) (value a1) (value a2) }
 {
     let f1 = field::product(a1, tau_prime).xor(a2);
     let f2 = a1.xor(expanded.encipher(f1));
     let b2 = f1.xor(expanded.encipher(f2));
     let b1 = f2.xor(field::product(b2, tau_prime));
-    Pair {
-        first: b1,
-        second: b2,
-    }
+    (b1, b2)
 }
 
 // Table 2 backwards: what goes in and what comes out is swapped.
-fn swapped_feistel(expanded: ExpandedKey, tau_prime: Block, b1: Block, b2: Block) -> Pair
+fn swapped_feistel(expanded: ExpandedKey, tau_prime: Block, b1: Block, b2: Block) -> (Block, Block)
     ensures { values result ≡ swapped_feistel (under expanded).E power_sum (value tau_prime) (value b1) (value b2) }
 {
-    let a = feistel(expanded, tau_prime, b2, b1);
-    let a1 = a.second;
-    let a2 = a.first;
-    Pair {
-        first: a1,
-        second: a2,
-    }
+    let (a2, a1) = feistel(expanded, tau_prime, b2, b1);
+    (a1, a2)
 }
 
 // The sum of four blocks.
-fn sum(a: Pair, b: Pair) -> Block
-    ensures { value result ≡ value a.first ⊕ value a.second ⊕ value b.first ⊕ value b.second }
+fn sum(a: (Block, Block), b: (Block, Block)) -> Block
+    ensures { value result ≡ value a.0 ⊕ value a.1 ⊕ value b.0 ⊕ value b.1 }
 {
-    a.first.xor(a.second).xor(b.first).xor(b.second)
+    a.0.xor(a.1).xor(b.0).xor(b.1)
 }
 
 // Table 1 from M on: the modified counter mode on the bytes from 32 on, and the hash of what they are then, in the place of the first two blocks.
-fn finish(expanded: ExpandedKey, key: Key, beta: Block, m: Block, two: Pair, message: &mut [u8])
+fn finish(
+    expanded: ExpandedKey,
+    key: Key,
+    beta: Block,
+    m: Block,
+    two: (Block, Block),
+    message: &mut [u8],
+)
     requires { 32 ≤ length message.old }
     ensures { message.new ≡ from_m (under expanded).E times_x power_sum (value key.tau) (value key.beta1) (value beta) (value m) (values two) (behind_two message.old) }
 {
     expanded.modified_counter(key.beta1, m, &mut message[32..]);
     let front = hash(key.tau, beta, two, message);
-    front.first.write(message, 0);
-    front.second.write(message, 16);
+    front.0.write(message, 0);
+    front.1.write(message, 16);
 }
 
 // Table 1, enciphering.
@@ -128,7 +121,7 @@ fn encipher_message(expanded: ExpandedKey, tweak: Block, message: &mut [u8])
 {
     let key = key_def1(expanded, tweak, message.len());
     let a = hash(key.tau, key.beta1, first_two(message), message);
-    let b = feistel(expanded, key.tau_prime, a.first, a.second);
+    let b = feistel(expanded, key.tau_prime, a.0, a.1);
     finish(expanded, key, key.beta2, sum(a, b), b, message);
 }
 
@@ -139,7 +132,7 @@ fn decipher_message(expanded: ExpandedKey, tweak: Block, message: &mut [u8])
 {
     let key = key_def1(expanded, tweak, message.len());
     let b = hash(key.tau, key.beta2, first_two(message), message);
-    let a = swapped_feistel(expanded, key.tau_prime, b.first, b.second);
+    let a = swapped_feistel(expanded, key.tau_prime, b.0, b.1);
     finish(expanded, key, key.beta1, sum(a, b), a, message);
 }
 

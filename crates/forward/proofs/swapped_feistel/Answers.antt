@@ -6,4 +6,4 @@ use Rattle.forward.proofs.swapped_feistel.Goals as goal
 
 pub returns : goal.returns
 unfolding swapped_feistel
-returns c = ap (λ (p : ℕ × ℕ). (p.1, p.0)) c.feistel-a.ensures
+returns c = ap (λ (p : ℕ × ℕ). (p.1, p.0)) c.feistel.ensures
