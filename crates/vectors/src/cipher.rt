@@ -1,34 +1,39 @@
 // The commands of AES: a key of any length and one block.
-use crate::fields;
+use crate::{OtherLetter, fields};
 use blocks::block::Block;
 use primitives::aes::ExpandedKey;
-use strings::refusal::Refusal;
-use text::hex::Decoded;
 
-// Answers a command of AES behind its key and says so, or writes nothing. For more digits than a block's there is no room.
-pub(crate) fn reply(rt: &impl Print, way: u8, key: &[u8], rest: &[u8]) -> bool {
-    let mut block = [0u8; 16];
-    let Decoded::Bytes(n) = text::hex::decode(rest, &mut block) else {
-        return false;
-    };
-    if n != 16 || way != b'e' && way != b'd' {
-        return false;
-    }
-    run(rt, way == b'e', key, Block::read(&block, 0));
-    true
+// Which way a cipher goes.
+#[derive(Clone, Copy, Debug, PartialEq, Eq)]
+pub(crate) enum Way {
+    Encipher,
+    Decipher,
 }
 
-// Writes the block enciphered or deciphered, or the number of the refusal.
-fn run(rt: &impl Print, enciphers: bool, key: &[u8], block: Block) {
-    let expansion = ExpandedKey::new(key);
-    if !expansion.is_key {
-        fields::put_answer(rt, false, Refusal::KeyLength.number(), b"");
-        return;
+impl TryFrom<u8> for Way {
+    type Error = OtherLetter;
+
+    fn try_from(letter: u8) -> Result<Self, OtherLetter> {
+        match letter {
+            b'e' => Ok(Way::Encipher),
+            b'd' => Ok(Way::Decipher),
+            _ => Err(OtherLetter(letter)),
+        }
     }
-    let expanded = expansion.expanded;
-    if enciphers {
-        fields::put_block(rt, expanded.encipher(block));
-    } else {
-        fields::put_block(rt, expanded.decipher(block));
+}
+
+// Answers a command of AES behind its key, or writes nothing. For more digits than a block's there is no room.
+pub(crate) fn reply(rt: &impl Print, way: Way, key: &[u8], rest: &[u8]) -> Option<()> {
+    let mut bytes = [0u8; 16];
+    let field = fields::last_field(rest, &mut bytes)?;
+    if field.len() < 16 {
+        return None;
     }
+    let block = Block::read(&bytes, 0);
+    match (ExpandedKey::new(key), way) {
+        (Ok(expanded), Way::Encipher) => fields::put_block(rt, expanded.encipher(block)),
+        (Ok(expanded), Way::Decipher) => fields::put_block(rt, expanded.decipher(block)),
+        (Err(why), _) => fields::put_refusal(rt, why),
+    }
+    Some(())
 }

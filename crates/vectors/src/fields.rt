@@ -1,12 +1,10 @@
 // The fields of a line, and the line of an answer.
-ghost use Rattle.std.specs.Prelude.{◌≡◌, true, ℕ, ◌*◌, ◌≤◌, ◌<◌, length};
-ghost use Rattle.text.specs.declared.hex.Decoded.TheVariants.{Bytes};
-ghost use Rattle.vectors.specs.declared.fields.Two.TheVariants.{Lengths};
+ghost use Rattle.std.specs.Prelude.{◌≡◌, length};
 
-use crate::{BYTES, LIMIT};
+use crate::BYTES;
 use blocks::block::Block;
-use strings::{number, places};
-use text::hex::Decoded;
+use layout::Position;
+use strings::refusal::{self, Refusal};
 
 // Zeros, as room for the bytes of a field. The `ensures` gives only the length, which lending the array as a slice needs: the proof of
 // a function that made the array would count its elements.
@@ -23,102 +21,68 @@ pub(crate) fn list_room() -> [u16; BYTES / 2]
     [0u16; BYTES / 2]
 }
 
-// The place of the first byte b, or the length of `s` where there is none.
-pub(crate) fn place_of(b: u8, s: &[u8]) -> usize
-    ensures { result ≤ length s.now }
-{
-    for (i, x) in s.iter().enumerate() {
-        if *x == b {
-            return i;
-        }
-    }
-    s.len()
+// Decodes the field at the front of `line`, which ends at the first space, to the front of `out`, and answers its bytes and what
+// follows the space.
+#[tactic(auto, using(crate::proofs::Decoded::decoded))]
+pub(crate) fn field<'a, 'b>(line: &'a [u8], out: &'b mut [u8]) -> Option<(&'b mut [u8], &'a [u8])> {
+    let n = text::hex::decode_field(line, b' ', out)?;
+    Some((&mut out[..n], &line[2 * n + 1..]))
 }
 
-// Decodes the blocks that stand in `line`, one space between two, to the front of `data`, and answers
-// the number of their bytes. A field that is not a block is refused, and so is one block more than
-// `data` has room for.
+// Decodes the last field of a line, which ends with it: a space is no digit, so a further field is refused here.
 #[tactic(auto, using(crate::proofs::Decoded::decoded))]
-pub(crate) fn blocks_from(line: &[u8], data: &mut [u8]) -> Decoded
-    ensures { (n : ℕ) → result ≡ Bytes n → n ≤ length «data».old }
-{
+pub(crate) fn last_field<'b>(line: &[u8], out: &'b mut [u8]) -> Option<&'b mut [u8]> {
+    let n = text::hex::decode(line, out)?;
+    Some(&mut out[..n])
+}
+
+// Decodes a field of N bytes, no less, and answers them and what follows.
+fn whole_field<const N: usize>(line: &[u8]) -> Option<([u8; N], &[u8])> {
+    let mut bytes = [0u8; N];
+    let (field, rest) = field(line, &mut bytes)?;
+    if field.len() < N {
+        return None;
+    }
+    Some((bytes, rest))
+}
+
+// Reads the place of a block, a field of 8 digits, and answers it and what follows.
+pub(crate) fn place(line: &[u8]) -> Option<(u32, &[u8])> {
+    let (place, rest) = whole_field(line)?;
+    Some((u32::from_be_bytes(place), rest))
+}
+
+// Reads the number of a pack, a field of 16 digits, and a place in it, and answers them and what follows.
+pub(crate) fn position(line: &[u8]) -> Option<(Position, &[u8])> {
+    let (pack, rest) = whole_field(line)?;
+    let pack = u64::from_be_bytes(pack);
+    let (place, rest) = place(rest)?;
+    Some((Position { pack, place }, rest))
+}
+
+// Decodes the blocks that stand in `line`, one space between two, to the front of `data`, and answers their bytes. A field that is
+// not a block is refused, and so is one block more than `data` has room for.
+pub(crate) fn blocks_from<'b>(line: &[u8], data: &'b mut [u8]) -> Option<&'b [u8]> {
     let mut n = 0;
-    let mut next = 0;
-    while next <= line.len() {
-        let end = next + place_of(b' ', &line[next..]);
-        if data.len() - n < 16 {
-            return Decoded::Refused;
-        }
-        let Decoded::Bytes(count) = text::hex::decode(&line[next..end], &mut data[n..n + 16]) else {
-            return Decoded::Refused;
-        };
-        if count != 16 {
-            return Decoded::Refused;
+    for field in line.split(|c| *c == b' ') {
+        let block = data.get_mut(n..n + 16)?;
+        if text::hex::decode(field, block)? != 16 {
+            return None;
         }
         n += 16;
-        next = end + 1;
     }
-    Decoded::Bytes(n)
+    Some(&data[..n])
 }
 
-// Decodes the field at the front of `line`, which ends at the first space, to `out`, and says whether
-// it fills `out`: what follows the space then begins at 2 * out.len() + 1.
-#[tactic(auto, using(crate::proofs::Decoded::decoded))]
-pub(crate) fn filled(line: &[u8], out: &mut [u8]) -> bool
-    ensures { result ≡ true → 2 * length out.old < length line.now }
-{
-    let Decoded::Bytes(n) = text::hex::decode_field(line, b' ', out) else {
-        return false;
-    };
-    n == out.len()
-}
-
-// What `decode_two` answers: how many bytes each of the fields has, or that they are not understood.
-#[derive(Clone, Copy)]
-pub(crate) enum Two {
-    Lengths(usize, usize),
-    Refused,
-}
-
-// Decodes two fields with a space between them. The last ends with the line: a space is no digit, so a third is refused here.
-#[tactic(auto, using(crate::proofs::Decoded::decoded))]
-pub(crate) fn decode_two(line: &[u8], first: &mut [u8], last: &mut [u8]) -> Two
-    ensures { (m n : ℕ) → result ≡ Lengths m n → (m ≤ length first.old) × (n ≤ length last.old) }
-{
-    let Decoded::Bytes(m) = text::hex::decode_field(line, b' ', first) else {
-        return Two::Refused;
-    };
-    let Decoded::Bytes(n) = text::hex::decode(&line[2 * m + 1..], last) else {
-        return Two::Refused;
-    };
-    Two::Lengths(m, n)
-}
-
-// Reads the entries of a list from its bytes, two for each, to the front of `list`, as many as it has room for, and answers how many.
-pub(crate) fn list_from(bytes: &[u8], list: &mut [u16]) -> usize
-    ensures { result ≤ length list.old }
-{
-    let n = places::least(bytes.len() / 2, list.len());
-    let mut i = 0;
-    while i < n {
-        list[i] = number::get(bytes, 2 * i, 2) as u16;
-        i += 1;
+// Reads the entries of a list from its bytes, two for each, to the front of `list`. An odd number of bytes is no list.
+pub(crate) fn list_from<'b>(bytes: &[u8], list: &'b mut [u16]) -> Option<&'b mut [u16]> {
+    if bytes.len() % 2 != 0 {
+        return None;
     }
-    n
-}
-
-// Writes a list as bytes, two for each entry, to the front of `out`, as many entries as it has room for, and answers the number of
-// bytes.
-fn list_bytes(list: &[u16], out: &mut [u8]) -> usize
-    ensures { result ≤ length out.old }
-{
-    let n = places::least(list.len(), out.len() / 2);
-    let mut i = 0;
-    while i < n {
-        number::put(out, 2 * i, 2, list[i] as u64);
-        i += 1;
+    for (pair, entry) in bytes.chunks_exact(2).zip(list.iter_mut()) {
+        *entry = u16::from_be_bytes([pair[0], pair[1]]);
     }
-    2 * n
+    list.get_mut(..bytes.len() / 2)
 }
 
 // Writes to standard output. Where that fails, nothing is left to be done: the program goes on with the next line.
@@ -126,54 +90,58 @@ pub(crate) fn put(rt: &impl Print, bytes: &[u8]) {
     let _ = rt.write_all(bytes);
 }
 
-// Writes a number in decimal digits.
+// Writes a number in decimal digits, and a space.
 pub(crate) fn put_number(rt: &impl Print, n: u64) {
-    let _ = rt.print(n);
+    let _ = print!(rt; "{n} ");
 }
 
-// Writes a list and a space.
+// Writes the digits of bytes, those of a block at a time.
+#[tactic(auto, unfolding(text::specs::Inner::fitting))]
+fn put_digits(rt: &impl Print, bytes: &[u8]) {
+    for part in bytes.chunks(512) {
+        let mut digits = [0u8; 1024];
+        let n = text::hex::encode(part, &mut digits);
+        put(rt, &digits[..n]);
+    }
+}
+
+// Writes a list, and a space.
 pub(crate) fn put_list(rt: &impl Print, list: &[u16]) {
-    let mut bytes = room();
-    let n = list_bytes(list, &mut bytes);
-    let mut spaces = [b' '; LIMIT + 1];
-    put_bytes(rt, &bytes[0..n], &mut spaces);
+    for entry in list {
+        put_digits(rt, &entry.to_be_bytes());
+    }
+    put(rt, b" ");
+}
+
+// Writes bytes as the end of an answer.
+pub(crate) fn put_line(rt: &impl Print, bytes: &[u8]) {
+    put_digits(rt, bytes);
+    put(rt, b"\n");
 }
 
 // Writes a block as a line.
 pub(crate) fn put_block(rt: &impl Print, b: Block) {
     let mut bytes = [0u8; 16];
     b.write(&mut bytes, 0);
-    let mut line = [b'\n'; 33];
-    put_bytes(rt, &bytes, &mut line);
+    put_line(rt, &bytes);
 }
 
-// Writes bytes and a line feed, or a space where they do not end the answer, by way of `out`, in which the caller lends that
-// character, more of it than there are digits: the digits go to the front, and one such character is written with them.
-pub(crate) fn put_bytes(rt: &impl Print, bytes: &[u8], out: &mut [u8]) {
-    let n = text::hex::encode(bytes, out);
-    if n < out.len() {
-        let end = n + 1;
-        put(rt, &out[0..end]);
-    }
-}
-
-// Writes bytes as the end of an answer.
-pub(crate) fn put_line(rt: &impl Print, bytes: &[u8]) {
-    let mut line = [b'\n'; LIMIT + 1];
-    put_bytes(rt, bytes, &mut line);
+// Writes `no` and the number of a refusal.
+pub(crate) fn put_refusal(rt: &impl Print, why: Refusal) {
+    let number = why.number();
+    let _ = println!(rt; "no {number}");
 }
 
 // Writes the answer of a call: the bytes, or `no` and the number of the refusal. Where the line lent the bytes, it is the number and
 // the bytes as they are left, refused or not.
-pub(crate) fn put_answer(rt: &impl Print, lent: bool, number: u32, bytes: &[u8]) {
+pub(crate) fn put_answer(rt: &impl Print, lent: bool, answer: Result<(), Refusal>, bytes: &[u8]) {
     if lent {
-        put_number(rt, number as u64);
-        put(rt, b" ");
-    } else if number > 0 {
-        put(rt, b"no ");
-        put_number(rt, number as u64);
-        put(rt, b"\n");
-        return;
+        put_number(rt, refusal::number(answer) as u64);
+        put_line(rt, bytes);
+    } else {
+        match answer {
+            Ok(()) => put_line(rt, bytes),
+            Err(why) => put_refusal(rt, why),
+        }
     }
-    put_line(rt, bytes);
 }

@@ -45,10 +45,9 @@ mod sealing;
 
 use blocks::block::Block;
 use primitives::field;
-use schemes::SchemeName;
+use schemes::{Forward, Hch, Scheme};
 use std::io::Read;
-use text::hex::Decoded;
-use text::part::Kept;
+use text::part::LineBuffer;
 
 // The most characters that a line may have in front of its line feed: the digits of 132 blocks of 512 bytes, as lines with a pack
 // of more than 128 are to be understood.
@@ -60,13 +59,16 @@ const BYTES: usize = LIMIT / 2;
 // The most bytes that are read at once.
 const CHUNK: usize = 65536;
 
+// A second letter that says nothing where it stands.
+#[derive(Clone, Copy, Debug, PartialEq, Eq)]
+pub(crate) struct OtherLetter(u8);
+
 // A proved loop has to end, and nothing says that the input does. So the loop counts its turns, to a number that no run reaches.
-// A read that fails ends the input.
+// A read that fails ends the input. A last line may lack its line feed; after a final line feed there is none.
 fn main(rt: HostRuntime) {
     let mut input = rt.stdin();
-    let mut line = [0u8; LIMIT];
+    let mut line = LineBuffer::<LIMIT>::new();
     let mut chunk = [0u8; CHUNK];
-    let mut kept = Kept::Characters(0);
     for _ in 0..u64::MAX {
         let Ok(n) = input.read(&mut chunk) else {
             break;
@@ -74,143 +76,87 @@ fn main(rt: HostRuntime) {
         if n == 0 {
             break;
         }
-        let next = lines(&rt, &mut line, kept, &chunk[..n]);
-        kept = next;
+        lines(&rt, &mut line, &chunk[..n]);
     }
-    last(&rt, &line, kept);
+    if !line.is_empty() {
+        answer(&rt, &line);
+    }
 }
 
-// Goes on with the line under way, answers it where it ends, and so with each that follows. What is
-// kept of the last, which has not ended, is returned.
-fn lines(rt: &impl Print, line: &mut [u8], kept: Kept, chunk: &[u8]) -> Kept {
-    let mut kept = kept;
-    let mut at = 0;
-    while at < chunk.len() {
-        let end = at + fields::place_of(b'\n', &chunk[at..]);
-        let more = text::part::append(line, kept, &chunk[at..end]);
-        kept = more;
-        if end < chunk.len() {
-            answer(rt, line, kept);
-            kept = Kept::Characters(0);
-        }
-        at = end + 1;
+// Goes on with the line under way, answers it where it ends, and so with each that follows.
+fn lines(rt: &impl Print, line: &mut LineBuffer<LIMIT>, chunk: &[u8]) {
+    let mut rest = chunk;
+    while let Some(end) = rest.iter().position(|c| *c == b'\n') {
+        line.append(&rest[..end]);
+        answer(rt, line);
+        line.clear();
+        rest = &rest[end + 1..];
     }
-    kept
+    line.append(rest);
 }
 
-// Answers a last line that lacks its line feed; after a final line feed there is none.
-fn last(rt: &impl Print, line: &[u8], kept: Kept) {
-    if let Kept::Characters(n) = kept {
-        if n == 0 {
-            return;
-        }
+// Answers a line.
+fn answer(rt: &impl Print, line: &LineBuffer<LIMIT>) {
+    let done = line.line().and_then(|chars| reply(rt, chars));
+    if done.is_none() {
+        fields::put(rt, b"no\n");
     }
-    answer(rt, line, kept);
 }
 
-// Answers the line that is kept.
-fn answer(rt: &impl Print, line: &[u8], kept: Kept) {
-    if let Kept::Characters(n) = kept {
-        if n <= line.len() {
-            if reply(rt, &line[0..n]) {
-                return;
-            }
-        }
+// Writes the answer to a line, or nothing where it is no command with its fields. The command ends at the first space.
+fn reply(rt: &impl Print, line: &[u8]) -> Option<()> {
+    let end = line.iter().position(|c| *c == b' ')?;
+    let rest = &line[end + 1..];
+    match &line[..end] {
+        [letter] => run_blocks(rt, *letter, rest),
+        [b'p', b'f'] => finding::reply(rt, rest),
+        [b'l', b'f'] => finding::reply_lent(rt, rest),
+        [first, second] => run_keyed(rt, *first, *second, rest),
+        _ => None,
     }
-    fields::put(rt, b"no\n");
 }
 
-// Writes the answer to a line and says so, or writes nothing. The command ends at the first space, and its fields come after.
-fn reply(rt: &impl Print, line: &[u8]) -> bool {
-    let end = fields::place_of(b' ', line);
-    if end >= line.len() {
-        return false;
-    }
-    let next = end + 1;
-    run(rt, &line[0..end], &line[next..])
-}
-
-// A command on the rest of its line. Those of one letter read blocks; those of two begin with a key, but for the two that find.
-fn run(rt: &impl Print, command: &[u8], rest: &[u8]) -> bool {
-    if command.len() == 1 {
-        return run_blocks(rt, command[0], rest);
-    }
-    if command.len() == 2 {
-        let scheme = command[0];
-        let way = command[1];
-        if scheme == b'p' && way == b'f' {
-            return finding::reply(rt, rest);
-        }
-        if scheme == b'l' && way == b'f' {
-            return finding::reply_lent(rt, rest);
-        }
-        return run_keyed(rt, scheme, way, rest);
-    }
-    false
-}
-
-// Whether a command's first letter says that it lends.
-pub(crate) fn lends(letter: u8) -> bool {
-    letter == b'l' || letter == b'g'
-}
-
-// The scheme that a command's first letter stands for.
-pub(crate) fn name_of(letter: u8) -> SchemeName {
-    if letter == b'f' || letter == b'g' {
-        return SchemeName::Forward;
-    }
-    SchemeName::Hch
-}
-
-// A command under a key of any length. Those of `f`, and those of `l` and `g`, which lend, are on a message or of a pack, as the second letter says.
-#[tactic(auto, using(crate::proofs::Decoded::decoded))]
-fn run_keyed(rt: &impl Print, scheme: u8, way: u8, rest: &[u8]) -> bool {
+// A command under a key of any length. Those of `l` and `g` lend their bytes.
+fn run_keyed(rt: &impl Print, first: u8, second: u8, rest: &[u8]) -> Option<()> {
     let mut key = fields::room();
-    let Decoded::Bytes(n) = text::hex::decode_field(rest, b' ', &mut key) else {
-        return false;
-    };
-    let key = &key[0..n];
-    let rest = &rest[2 * n + 1..];
-    if scheme == b'a' {
-        return cipher::reply(rt, way, key, rest);
+    let (key, rest) = fields::field(rest, &mut key)?;
+    match first {
+        b'a' => cipher::reply(rt, second.try_into().ok()?, key, rest),
+        b'h' => message::reply::<Hch>(rt, second.try_into().ok()?, false, key, rest),
+        b'p' => sealing::reply::<Hch>(rt, second.try_into().ok()?, false, key, rest),
+        b'f' => run_either::<Forward>(rt, second, false, key, rest),
+        b'l' => run_either::<Hch>(rt, second, true, key, rest),
+        b'g' => run_either::<Forward>(rt, second, true, key, rest),
+        b'r' => batch::reply::<Hch>(rt, second.try_into().ok()?, key, rest),
+        _ => None,
     }
-    let either = lends(scheme) || scheme == b'f';
-    if scheme == b'h' || either && (way == b'e' || way == b'd') {
-        return message::reply(rt, scheme, way, key, rest);
+}
+
+// A command that is on a message or of a pack, as its second letter says.
+fn run_either<S: Scheme>(
+    rt: &impl Print,
+    letter: u8,
+    lent: bool,
+    key: &[u8],
+    rest: &[u8],
+) -> Option<()> {
+    if let Ok(way) = cipher::Way::try_from(letter) {
+        return message::reply::<S>(rt, way, lent, key, rest);
     }
-    if scheme == b'p' || either || scheme == b'r' {
-        return sealing::reply(rt, scheme, way, key, rest);
-    }
-    false
+    sealing::reply::<S>(rt, letter.try_into().ok()?, lent, key, rest)
 }
 
 // A command on blocks.
-fn run_blocks(rt: &impl Print, command: u8, rest: &[u8]) -> bool {
-    let mut data = fields::room();
-    let Decoded::Bytes(n) = fields::blocks_from(rest, &mut data) else {
-        return false;
+fn run_blocks(rt: &impl Print, letter: u8, rest: &[u8]) -> Option<()> {
+    let mut bytes = fields::room();
+    let bytes = fields::blocks_from(rest, &mut bytes)?;
+    let a = Block::read(bytes, 0);
+    let answer = match (letter, bytes.len()) {
+        (b'x', 16) => field::times_x(a),
+        (b'm', 32) => field::product(a, Block::read(bytes, 16)),
+        (b's', 16..) => field::power_sum(a, &bytes[16..]),
+        _ => return None,
     };
-    ring(rt, command, &data[0..n])
-}
-
-// The products of blocks.
-fn ring(rt: &impl Print, command: u8, data: &[u8]) -> bool {
-    let n = data.len();
-    if n < 16 {
-        return false;
-    }
-    let a = Block::read(data, 0);
-    if command == b'x' && n == 16 {
-        fields::put_block(rt, field::times_x(a));
-        return true;
-    }
-    if command == b'm' && n == 32 {
-        fields::put_block(rt, field::product(a, Block::read(data, 16)));
-        return true;
-    }
-    if command == b's' {
-        fields::put_block(rt, field::power_sum(a, &data[16..]));
-        return true;
-    }
-    false
+    fields::put_block(rt, answer);
+    Some(())
 }

@@ -1,0 +1,10 @@
+-- The bytes of a field have room.
+use Rattle.std.proofs.Common.{sym, arith}
+use lib.Seq.{length-take-le}
+use Rattle.vectors.proofs.Decoded.{field_fits}
+use Rattle.vectors.proofs.fields.field.Goals as goal
+
+pub slice_bounds-result-end : goal.slice_bounds-result-end
+slice_bounds-result-end c =
+    let fits = field_fits 32 c.args.line.now c.args.out.now c.in_ok-n.n (sym c.in_ok-n.ensures.value) in
+    sym (length-take-le c.in_ok-n.n c.decode_field.new.out (omega (arith, fits, c.decode_field.auto.out)))
