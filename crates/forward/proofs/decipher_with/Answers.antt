@@ -1,5 +1,5 @@
 -- The tests that were passed admit the message, and the work is that of its table.
-use Rattle.std.proofs.Common.{sym, ap, ◌∙◌, length, refl, arith}
+use Rattle.std.proofs.Common.{sym, ap, ◌∙◌, length, refl}
 use Rattle.strings.specs.Call.{number_of}
 use Rattle.strings.specs.declared.refusal.Refusal.TheVariants.{ForwardTooShort}
 use Rattle.strings.proofs.OnMessages.{admitted_behind_key}
@@ -7,12 +7,6 @@ use Rattle.blocks.proofs.Blocks.{block_whole}
 use Rattle.forward.specs.Forward.{deciphered_by}
 use Rattle.forward.proofs.Theorems.{under-cipher}
 use Rattle.forward.proofs.decipher_with.Goals as goal
-
-pub decipher_message-requires : goal.decipher_message-requires
-decipher_message-requires c =
-    let args = c.args in
-    let a = admitted_behind_key 33 ForwardTooShort args.tweak.now args.ciphertext.now (ap number_of (sym c.judge.ensures ∙ c.in_ok-judge.was)) in
-    (omega (arith, a.at_least), a.at_most)
 
 pub returns-clause-ciphertext_after : goal.returns-clause-ciphertext_after
 unfolding deciphered_by

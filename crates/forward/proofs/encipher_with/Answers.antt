@@ -1,5 +1,5 @@
 -- The tests that were passed admit the message, and the work is that of its table.
-use Rattle.std.proofs.Common.{sym, ap, ◌∙◌, length, refl, arith}
+use Rattle.std.proofs.Common.{sym, ap, ◌∙◌, length, refl}
 use Rattle.strings.specs.Call.{number_of}
 use Rattle.strings.specs.declared.refusal.Refusal.TheVariants.{ForwardTooShort}
 use Rattle.strings.proofs.OnMessages.{admitted_behind_key}
@@ -7,12 +7,6 @@ use Rattle.blocks.proofs.Blocks.{block_whole}
 use Rattle.forward.specs.Forward.{enciphered_by}
 use Rattle.forward.proofs.Theorems.{under-cipher}
 use Rattle.forward.proofs.encipher_with.Goals as goal
-
-pub encipher_message-requires : goal.encipher_message-requires
-encipher_message-requires c =
-    let args = c.args in
-    let a = admitted_behind_key 33 ForwardTooShort args.tweak.now args.message.now (ap number_of (sym c.judge.ensures ∙ c.in_ok-judge.was)) in
-    (omega (arith, a.at_least), a.at_most)
 
 pub returns-clause-message_after : goal.returns-clause-message_after
 unfolding enciphered_by

@@ -8,12 +8,6 @@ use Rattle.hch.specs.Hch.{deciphered_by}
 use Rattle.hch.proofs.Theorems.{under-cipher}
 use Rattle.hch.proofs.decipher_with.Goals as goal
 
-pub decipher_message-requires : goal.decipher_message-requires
-decipher_message-requires c =
-    let args = c.args in
-    let a = admitted_behind_key 16 TooShort args.tweak.now args.ciphertext.now (ap number_of (sym c.judge.ensures ∙ c.in_ok-judge.was)) in
-    (a.at_least, a.at_most)
-
 pub returns-clause-ciphertext_after : goal.returns-clause-ciphertext_after
 unfolding deciphered_by
 returns-clause-ciphertext_after c =

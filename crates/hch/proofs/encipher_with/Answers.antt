@@ -8,12 +8,6 @@ use Rattle.hch.specs.Hch.{enciphered_by}
 use Rattle.hch.proofs.Theorems.{under-cipher}
 use Rattle.hch.proofs.encipher_with.Goals as goal
 
-pub encipher_message-requires : goal.encipher_message-requires
-encipher_message-requires c =
-    let args = c.args in
-    let a = admitted_behind_key 16 TooShort args.tweak.now args.message.now (ap number_of (sym c.judge.ensures ∙ c.in_ok-judge.was)) in
-    (a.at_least, a.at_most)
-
 pub returns-clause-message_after : goal.returns-clause-message_after
 unfolding enciphered_by
 returns-clause-message_after c =
