@@ -1,5 +1,5 @@
 // A block of 16 bytes as two halves, its first byte the highest of `hi`.
-ghost use Rattle.std.specs.Prelude.{ℕ, ◌+◌, ◌*◌, ◌^◌, ◌≤◌, ◌<◌, ◌≡◌, true, false, length, drop, slice_index_or};
+ghost use Rattle.std.specs.Prelude.{ℕ, ◌+◌, ◌*◌, ◌≤◌, ◌<◌, ◌≡◌, true, false, length, drop, slice_index_or};
 ghost use Rattle.strings.specs.Xor.{◌⊕◌};
 ghost use Rattle.strings.specs.Bytes.{number, bytes};
 ghost use Rattle.strings.specs.Inner.{padded, overwrite};
@@ -159,13 +159,14 @@ impl Block {
 // The first N blocks of a string, as `read` reads them. Where all are whole, they are read with one test for all. Only parts of `s` are lent on: where `s` itself is, the
 // compiler keeps its address and length in memory.
 pub fn read_all<const N: usize>(s: &[u8]) -> [Block; N]
-    requires { 16 * N < 2 ^ 64 }
     ensures { (i : ℕ) → (none : Block) → i < N → value (slice_index_or result i none) ≡ first_block (drop (16 * i) s.now) }
 {
     let mut all = [Block::ZERO; N];
-    if s.len() < 16 * N {
+    if s.len() / 16 < N {
+        let mut rest = &s[0..];
         for i in 0..N {
-            all[i] = Block::read(&s[0..], 16 * i);
+            all[i] = Block::read(rest, 0);
+            rest = &rest[rest.len().min(16)..];
         }
         return all;
     }
