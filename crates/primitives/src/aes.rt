@@ -192,14 +192,6 @@ impl ExpandedKey {
         self.enciphered(block)
     }
 
-    // D of a block.
-    #[inline(never)]
-    pub fn decipher(self, block: Block) -> Block
-        ensures { value result ≡ (under self).D (value block) }
-    {
-        Block::from_words(self.inv_cipher(block.to_words()))
-    }
-
     // Adds E(input) to block i, cut where `message` ends.
     fn mask(&self, input: Block, message: &mut [u8], i: usize)
         requires { 16 * i < 2 ^ 64 }
@@ -226,5 +218,13 @@ impl ExpandedKey {
             self.mask(phi.xor(s), message, i);
             phi = field::times_x(phi);
         }
+    }
+
+    // D of a block.
+    #[inline(never)]
+    pub fn decipher(self, block: Block) -> Block
+        ensures { value result ≡ (under self).D (value block) }
+    {
+        Block::from_words(self.inv_cipher(block.to_words()))
     }
 }

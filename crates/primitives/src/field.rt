@@ -54,10 +54,8 @@ fn pairs(r: Block, s: &[u8]) -> Block
         return sum;
     }
     let r2 = product(r, r);
-    let mut at = 0;
-    while s.len() - at >= 32 {
-        sum = two_steps(r, r2, sum, &s[at..]);
-        at += 32;
+    for pair in s.chunks_exact(32) {
+        sum = two_steps(r, r2, sum, pair);
     }
     sum
 }
@@ -69,10 +67,8 @@ pub fn power_sum(r: Block, s: &[u8]) -> Block
     ensures { value result ≡ power_sum (value r) (blocks s.now) }
 {
     let mut sum = pairs(r, s);
-    let mut at = s.len() - s.len() % 32;
-    while at < s.len() {
-        sum = product(sum.xor(Block::read(&s[at..], 0)), r);
-        at += 16;
+    for block in s[s.len() - s.len() % 32..].chunks(16) {
+        sum = product(sum.xor(Block::read(block, 0)), r);
     }
     sum
 }

@@ -1,21 +1,13 @@
--- Two blocks at once: what Horner's rule makes of the sum so far and of the blocks from `at` on is what it makes of all of them.
-use Rattle.std.proofs.Common.{◌≡◌, ℕ, ◌-◌, ◌%◌, ◌^◌, ◌<◌, ◌≤◌, List, length, drop}
+-- Two blocks at once: what Horner's rule makes of the sum so far and of the chunks that are left is what it makes of all blocks.
+use Rattle.std.proofs.Common.{◌≡◌, ◌≤◌, ◌-◌, ◌%◌, ◌^◌, ◌<◌, length, drop}
+use Rattle.std.specs.Slice.Iter.{chunks_exact_rest, chunks_exact_size}
 use Rattle.blocks.specs.Blocks.{blocks}
 use Rattle.blocks.specs.BlockField.{◌·◌}
 use Rattle.blocks.specs.Inner.{horner, value}
 use Rattle.primitives.proofs.field.pairs.Given as goal
 
-abbrev pub Left : ℕ → ℕ → List ℕ → ℕ → Type 0
-Left R S s at = horner ◌·◌ R S (blocks (drop at s)) ≡ horner ◌·◌ R 0 (blocks s)
-
-pub record Inv (r : ℕ) (s : List ℕ) (sum at : ℕ) : Type 0 where
-  pub left : Left r sum s at
-  pub below : sum < 2 ^ 128
-  pub within : at ≤ length s
-  pub even : at % 32 ≡ 0
-
-abbrev pub invariant-loop-at : goal.invariant-loop-at
-invariant-loop-at l = Inv (value l.r) l.s (value l.sum) l.at
-
-abbrev pub decreases-loop-at : goal.decreases-loop-at
-decreases-loop-at l = length l.s - l.at
+abbrev pub invariant-loop-pair : goal.invariant-loop-pair
+invariant-loop-pair l =
+    let rest = chunks_exact_rest l.pair-iterator in
+    (chunks_exact_size l.pair-iterator ≡ 32) × (horner ◌·◌ (value l.r) (value l.sum) (blocks rest) ≡ horner ◌·◌ (value l.r) 0 (blocks l.s))
+    × (value l.sum < 2 ^ 128) × (length rest ≤ length l.s) × (rest ≡ drop (length l.s - length rest) l.s) × (length rest % 32 ≡ length l.s % 32)
