@@ -1,6 +1,8 @@
 -- Laws of blocks: a string is cut by 16, and a block that is read is its two halves.
 -- Assumes nothing.
 use Prim.Native.Nat.{ℕ, zero, suc, ◌+◌, ◌*◌, ◌/◌, ◌%◌, ◌-◌, ◌^◌, ◌≤◌, ◌<◌}
+use Rattle.std.proofs.Common.{sym, ◌∙◌, ◌++◌, min, take-take, take_at, drop_at}
+use Rattle.std.proofs.lemmas.List.{take_min, drop_min}
 use mathlib.Core.Path.{◌≡◌, refl, ap}
 use mathlib.Core.List.{List, [], ◌∷◌, append-nil}
 use native.Mathlib.Nat.{mod-eq_of_lt, mod-lt}
@@ -26,6 +28,17 @@ block_padded s = ap number (take-zeros 16 s)
 pub block_first : (s : List ℕ) → 16 ≤ length s → first_block s ≡ number (take 16 s)
 unfolding first_block pad
 block_first s h = ap number (rw (length-take-le 16 s h, append-nil))
+
+pub block_taken : (n : ℕ) (s : List ℕ) → 16 ≤ n → first_block (take n s) ≡ first_block s
+unfolding first_block pad
+block_taken n s h = rw (take-take 16 n s h)
+
+-- A chunk from the front of a string, and what is behind it.
+pub chunk_front : (n : ℕ) (x t s : List ℕ) → s ≡ x ++ t → length x ≡ min n (length s) → x ≡ take n s
+chunk_front n x t s e l = sym (take_at x t (length x) refl) ∙ ap (take (length x)) (sym e) ∙ ap (λ (k : ℕ). take k s) l ∙ take_min n s
+
+pub chunk_behind : (n : ℕ) (x t s : List ℕ) → s ≡ x ++ t → length x ≡ min n (length s) → t ≡ drop n s
+chunk_behind n x t s e l = sym (drop_at x t (length x) refl) ∙ ap (drop (length x)) (sym e) ∙ ap (λ (k : ℕ). drop k s) l ∙ drop_min n s
 
 pub block_whole : (s : List ℕ) → length s ≡ 16 → first_block s ≡ number s
 block_whole s h = rw (block_first s (omega (arith, h)), take_all 16 s (omega (arith, h)))

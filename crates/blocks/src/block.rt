@@ -1,5 +1,5 @@
 // A block of 16 bytes as two halves, its first byte the highest of `hi`.
-ghost use Rattle.std.specs.Prelude.{ℕ, ◌+◌, ◌*◌, ◌^◌, ◌≤◌, ◌<◌, ◌≡◌, true, false, length, drop, slice_index_or};
+ghost use Rattle.std.specs.Prelude.{ℕ, ◌+◌, ◌*◌, ◌≤◌, ◌<◌, ◌≡◌, true, false, length, drop, slice_index_or};
 ghost use Rattle.strings.specs.Xor.{◌⊕◌};
 ghost use Rattle.strings.specs.Bytes.{number, bytes};
 ghost use Rattle.strings.specs.Inner.{padded, overwrite};
@@ -11,6 +11,13 @@ ghost use Rattle.blocks.specs.declared.block.Block.{Block};
 pub struct Block {
     pub hi: u64,
     pub lo: u64,
+}
+
+// Two blocks, one after the other.
+#[derive(Clone, Copy)]
+pub struct Pair {
+    pub first: Block,
+    pub second: Block,
 }
 
 // Whether a string of that length has 16 bytes from place `at` on. That may be any number, for no sum is made that could be too large.
@@ -156,8 +163,10 @@ pub fn read_all<const N: usize>(s: &[u8]) -> [Block; N]
 {
     let mut all = [Block::ZERO; N];
     if s.len() / 16 < N {
+        let mut rest = &s[0..];
         for i in 0..N {
-            all[i] = Block::read(&s[0..], i.saturating_mul(16));
+            all[i] = Block::read(rest, 0);
+            rest = &rest[rest.len().min(16)..];
         }
         return all;
     }
