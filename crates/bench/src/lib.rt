@@ -1,4 +1,4 @@
-// What bench/ measures from C.
+// What bench/ measures from C: each call has its own name there, so that the two for AES stay two.
 #![tactic(auto)]
 
 ghost use Rattle.std.specs.Prelude.{◌≡◌};

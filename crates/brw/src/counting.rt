@@ -7,7 +7,7 @@ ghost use Rattle.blocks.specs.Inner.{value as value_of};
 use blocks::block::Block;
 use primitives::field;
 
-#[derive(Clone, Copy)]
+#[derive(Clone, Copy, Debug, PartialEq, Eq)]
 pub struct Evaluation {
     pub value: Block,
     pub products: usize,

@@ -8,7 +8,6 @@ ghost use Rattle.brw.specs.Inner.{lent_polynomial, SplitOf};
 use crate::counting::Evaluation;
 use crate::powers;
 use blocks::block;
-use strings::places;
 
 // Where a string of more than 48 bytes is split: k is the largest power of two not above the number of its blocks, and 2 to this exponent; the kth block stands
 // from `at` on, and those behind it from `end` on.
@@ -30,7 +29,7 @@ fn split_at(length: usize) -> Split
     Split {
         exponent,
         at,
-        end: at + places::least(16, length - at),
+        end: at + (length - at).min(16),
     }
 }
 
@@ -40,20 +39,18 @@ fn few(powers: &[u64; 16], s: &[u8]) -> Evaluation
     ensures value_value { value result.value ≡ lent_polynomial powers.now (blocks s.now) }
     ensures products_value { result.products ≡ products (length (blocks s.now)) }
 {
-    let x = block::read_three(s);
+    let [first, second, third] = block::read_all::<3>(s);
     if s.len() <= 16 {
-        return Evaluation::of(x.first);
+        return Evaluation::of(first);
     }
     let t = powers::power(powers, 0);
     if s.len() <= 32 {
-        return Evaluation::of(x.first)
-            .times(t)
-            .plus(Evaluation::of(x.second));
+        return Evaluation::of(first).times(t).plus(Evaluation::of(second));
     }
     let t2 = powers::power(powers, 1);
-    Evaluation::of(t.xor(x.first))
-        .times(t2.xor(x.second))
-        .plus(Evaluation::of(x.third))
+    Evaluation::of(t.xor(first))
+        .times(t2.xor(second))
+        .plus(Evaluation::of(third))
 }
 
 // The polynomial of the blocks of a string with the powers that are lent, and the products that were made for it: the blocks before the kth, the kth and those
@@ -70,7 +67,7 @@ pub(crate) fn evaluate(powers: &[u64; 16], s: &[u8]) -> Evaluation
     let end = split.end;
     let before = evaluate(powers, &s[0..at]);
     let behind = evaluate(powers, &s[end..]);
-    let xk = block::read_first(&s[at..]);
+    let [xk] = block::read_all::<1>(&s[at..]);
     before
         .times(powers::power(powers, split.exponent).xor(xk))
         .plus(behind)

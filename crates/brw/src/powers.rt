@@ -27,12 +27,13 @@ pub fn prepare(t: Block, n: usize) -> [u64; 16]
     let mut square = t;
     powers[0] = t.hi;
     powers[1] = t.lo;
-    let mut i = 1;
-    while i < 8 && 1usize << i <= n {
+    for i in 1..8usize {
+        if 1usize << i > n {
+            break;
+        }
         square = field::product(square, square);
         powers[2 * i] = square.hi;
         powers[2 * i + 1] = square.lo;
-        i += 1;
     }
     powers
 }

@@ -61,7 +61,8 @@ fn parts(a: Block) -> Parts
     [a0, a1, b0, b1, c0, c1, a0 ^ a1, b0 ^ b1, c0 ^ c1]
 }
 
-// The product of each part of x with the same part of y, but for the ninth: of an even number the compiler makes two products at once.
+// The product of each part of x with the same part of y, but for the ninth: of an even number the compiler makes two products at once. Written by index, here and below: an
+// array's `map` is slower, and `from_fn` needs clauses at its closure to prove.
 fn products(x: Parts, y: Parts) -> [u64; 8]
     ensures { (i : ℕ) → i < 8 → get_or result i 0 ≡ carryless 32 (get_or x i 0) (get_or y i 0) }
 {

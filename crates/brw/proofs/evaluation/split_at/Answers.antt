@@ -51,7 +51,7 @@ known l h m =
 before_it : (k l : ℕ) → k ≤ (l + 15) / 16 → 16 * (k - 1) ≤ l
 before_it k l h = omega arith
 
-behind_it : (k l : ℕ) → 0 < k → k ≤ (l + 15) / 16 → 16 * (k - 1) + min 16 (l - 16 * (k - 1)) ≡ min (16 * k) l
+behind_it : (k l : ℕ) → 0 < k → k ≤ (l + 15) / 16 → 16 * (k - 1) + min (l - 16 * (k - 1)) 16 ≡ min (16 * k) l
 behind_it k l h m = omega arith
 
 pub overflow_mul-at : goal.overflow_mul-at
@@ -68,14 +68,14 @@ pub overflow_add-result : goal.overflow_add-result
 overflow_add-result c =
     let l = c.args.length in
     let k = known l c.requires (search rules) in
-    let end : 16 * (1 * 2 ^ highest l % 2 ^ 64 - 1) + c.least.result ≡ min (16 * largest_power ((l + 15) / 16)) l =
-    rw (c.least.ensures, k.shifted) (behind_it (largest_power ((l + 15) / 16)) l k.positive k.within) in
+    let end : 16 * (1 * 2 ^ highest l % 2 ^ 64 - 1) + c.min.result ≡ min (16 * largest_power ((l + 15) / 16)) l =
+    rw (c.min.ensures, k.shifted) (behind_it (largest_power ((l + 15) / 16)) l k.positive k.within) in
     record { fits = rw end (lt_of_le_of_lt (min-le_right _ l) (search rules)) }
 
 pub returns : goal.returns
 returns c =
     let l = c.args.length in
     let k = known l c.requires (search rules) in
-    let end : 16 * (1 * 2 ^ highest l % 2 ^ 64 - 1) + c.least.result ≡ min (16 * largest_power ((l + 15) / 16)) l =
-    rw (c.least.ensures, k.shifted) (behind_it (largest_power ((l + 15) / 16)) l k.positive k.within) in
+    let end : 16 * (1 * 2 ^ highest l % 2 ^ 64 - 1) + c.min.result ≡ min (16 * largest_power ((l + 15) / 16)) l =
+    rw (c.min.ensures, k.shifted) (behind_it (largest_power ((l + 15) / 16)) l k.positive k.within) in
     record { small = k.small; power_of = k.power_of; kth = rw k.shifted; behind = end }

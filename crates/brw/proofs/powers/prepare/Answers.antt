@@ -89,14 +89,14 @@ unfolding value
 loop-i-preserved c =
     let l = c.loop-i in
     let n = c.args.n in
-    let needed : 2 ^ l.i ≤ n = rw (shifted l.i c.loop-i-test.true) at c.if-i-n.true in
+    let needed : 2 ^ l.i ≤ n = rw (shifted l.i c.loop-i-test.true) at c.if-i-n.false in
     turn (value c.args.t) n l.powers (value l.square) l.i c.product-square.result.hi c.product-square.result.lo l.invariant c.loop-i-test.true needed c.product-square.ensures
 
-pub returns-else-i-n : goal.returns-else-i-n
-returns-else-i-n c =
+pub returns-then-i-n : goal.returns-then-i-n
+returns-then-i-n c =
     let l = c.loop-i in
     let n = c.args.n in
-    let over : n < 2 ^ l.i = rw (shifted l.i c.loop-i-test.true) at c.if-i-n.false in
+    let over : n < 2 ^ l.i = rw (shifted l.i c.loop-i-test.true) at c.if-i-n.true in
     ended (value c.args.t) n l.powers (value l.square) l.i l.invariant (λ j h. not_prepared (value c.args.t) n j (lt_of_lt_of_le over (pow_mono h)))
 
 pub returns-after-loop-i : goal.returns-after-loop-i

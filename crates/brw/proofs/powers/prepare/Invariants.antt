@@ -21,6 +21,3 @@ pub record Inv (t n : ℕ) (words : List ℕ) (square i : ℕ) : Type 0 where
 
 abbrev pub invariant-loop-i : goal.invariant-loop-i
 invariant-loop-i l = Inv (value l.initial.square) l.n l.powers (value l.square) l.i
-
-abbrev pub decreases-loop-i : goal.decreases-loop-i
-decreases-loop-i l = 8 - l.i
