@@ -88,6 +88,7 @@ fn result(line: &[u8], out: &mut [u8; ROOM]) -> Result<usize, NoResult>
 
 // Reads the key and the tweak, each in front of a space, and the message, which ends with the line:
 // a space is no digit, so a fourth field is refused there.
+// There is no heap, so each is bytes at the front of an array, with their number beside it.
 fn read(command: Command, fields: &[u8], out: &mut [u8; ROOM]) -> Result<usize, NoResult>
     requires { length fields.now ≤ 8300 }
     ensures { Answered (requested ((character command ∷ []) ∷ split 32 fields.now)) result out.old out.new }

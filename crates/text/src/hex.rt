@@ -64,7 +64,8 @@ fn byte_at(text: &[u8], k: usize) -> u8
     high * 16 + low
 }
 
-// The digit of a number below 16.
+// The digit of a number below 16. That of std, `from_digit`, and `to_digit` back, are no plainer: they
+// are of `char` and `u32`, answer an `Option`, and take upper case too.
 #[tactic(auto, unfolding(crate::specs::Hex::digit))]
 fn digit_of(n: u8) -> u8
     requires { n < 16 }

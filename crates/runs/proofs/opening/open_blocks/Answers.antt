@@ -50,21 +50,6 @@ slice_bounds-encipher_blocks-end g c =
     let long = left_length S a.start.pack a.start.place a.run.now c.in-Err.i c.in-Err.ensures cipher (λ k. (c.slice_known-1.given k).fits) in
     omega (arith, there, long)
 
-pub encipher_blocks-requires : goal.encipher_blocks-requires
-encipher_blocks-requires g c =
-    let a = c.args in
-    let S = g.S.Scheme.under a.expanded in
-    let cipher = g.S.Scheme.laws.cipher a.expanded 512 g.S.Scheme.laws.takes_blocks in
-    let there = told S a.start.pack a.start.place a.run.now c.in-Err.i c.in-Err.ensures in
-    let long = left_length S a.start.pack a.start.place a.run.now c.in-Err.i c.in-Err.ensures cipher (λ k. (c.slice_known-1.given k).fits) in
-    record { whole = rw length-take (omega (arith, there, long)); places = rw length-take (omega (arith, there, long, c.requires.places)) }
-
-pub place_of-requires : goal.place_of-requires
-place_of-requires g c =
-    let a = c.args in
-    let there = told (g.S.Scheme.under a.expanded) a.start.pack a.start.place a.run.now c.in-Err.i c.in-Err.ensures in
-    omega (arith, there, c.requires.places)
-
 pub returns-in-Err : goal.returns-in-Err
 returns-in-Err g c =
     let a = c.args in
