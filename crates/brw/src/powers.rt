@@ -1,4 +1,4 @@
-// The powers of the hash key t that the polynomial needs, t, t^2, t^4, .., t^128: as words, which can be lent, two for each.
+// The powers of the hash key t that the polynomial needs, t, t^2, t^4, .., t^128: as words, two for each, as the clauses of `hash` and `prepare` name them.
 ghost use Rattle.std.specs.Prelude.{ℕ, ◌≡◌};
 ghost use Rattle.blocks.specs.Inner.{value};
 ghost use Rattle.brw.specs.Inner.{power_at, prepared};

@@ -1,8 +1,8 @@
 -- What the contracts of inner functions cite: nobody has to believe it.
-use Rattle.std.specs.Prelude.{◌≡◌, ℕ, ◌+◌, ◌%◌, ◌<◌, ◌≤◌, List, [], ◌∷◌, slice_index}
+use Rattle.std.specs.Prelude.{◌≡◌, ℕ, ◌+◌, ◌%◌, ◌<◌, List, [], ◌∷◌, slice_index}
 use Rattle.strings.specs.Xor.{◌⊕◌}
 use Rattle.strings.specs.Bytes.{bytes}
-use Rattle.primitives.specs.Aes.{◌•◌, at, state, byte_of, s_box, inv_s_box, rot_word, Nr}
+use Rattle.primitives.specs.Aes.{◌•◌, at, state, byte_of, s_box, rot_word}
 
 -- The list t is the table of f on the bytes.
 pub record Table (f : ℕ → ℕ) (t : List ℕ) : Type 0 where
@@ -11,10 +11,6 @@ pub record Table (f : ℕ → ℕ) (t : List ℕ) : Type 0 where
 -- x is s with each byte looked up in t: f of it, for every f whose table t is.
 abbrev pub Substituted : List ℕ → List ℕ → List ℕ → Type 0
 Substituted t s x = (f : ℕ → ℕ) → Table f t → x ≡ state (λ r c. f (at s r c))
-
--- There is a round before the last, and the array of words has a round key for each.
-abbrev pub HasRoundKeys : ℕ → Type 0
-HasRoundKeys rounds = (2 ≤ rounds) × (rounds ≤ Nr 8)
 
 -- The state whose columns are four words.
 unfoldable pub of_columns : List ℕ → List ℕ
@@ -32,10 +28,6 @@ pub record MixingTable (own next second third : ℕ → ℕ) (t : List ℕ) : Ty
 -- The list t is the table of Cipher: of MixColumns after SubBytes.
 abbrev pub CipherTable : List ℕ → Type 0
 CipherTable = MixingTable (λ b. 0x02 • s_box b) (λ b. 0x03 • s_box b) s_box s_box
-
--- The lists are the tables of InvCipher: of the inverse S-box, and of InvMixColumns.
-abbrev pub InvCipherTables : List ℕ → List ℕ → Type 0
-InvCipherTables table mixing = Table inv_s_box table × MixingTable (λ b. 0x0e • b) (λ b. 0x0b • b) (λ b. 0x0d • b) (λ b. 0x09 • b) mixing
 
 -- What the table makes of a column: what is added from a lower row stands as many rows lower.
 unfoldable pub column_by : List ℕ → ℕ → ℕ

@@ -210,7 +210,8 @@ impl ExpandedKey {
         }
     }
 
-    // The modified counter mode of 000 on lent bytes, in the same way: E(x^i β ⊕ s) is added to block i, from 0 on.
+    // The modified counter mode of 000 on lent bytes, in the same way: E(x^i β ⊕ s) is added to block i, from 0 on. A loop of its own: one over a closure for the inputs would
+    // need clauses on how its state moves from block to block, and be longer than both.
     pub fn modified_counter(self, beta: Block, s: Block, message: &mut [u8])
         ensures { message.new ≡ masked_bytes (λ i. (under self).E (φ times_x (value beta) i ⊕ value s)) 0 message.old }
     {

@@ -74,7 +74,7 @@ fn sub_bytes(table: &Mixing, s: State) -> State
 pub(crate) fn rot_word(w: u32) -> u32
     ensures { result ≡ rot_word w }
 {
-    (w << 8) ^ (w >> 24)
+    w.rotate_left(8)
 }
 
 // A mixed column: the byte of each row adds its column of the table, turned to that row.

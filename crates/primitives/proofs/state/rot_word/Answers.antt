@@ -1,5 +1,6 @@
 -- The three low bytes go up by one, and the highest comes in below them.
 use Rattle.std.proofs.Common.{◌≡◌, ℕ, ◌+◌, ◌*◌, ◌/◌, ◌%◌, ◌^◌, ◌<◌, [], ◌∷◌, ◌∙◌, ap₂, zero-lt-suc, arith}
+use Rattle.std.specs.Int.Bits.{bit_or, or_add_and, xor_add_and}
 use lib.Arith.{mod-mul}
 use Rattle.strings.specs.Xor.{◌⊕◌}
 use Rattle.strings.specs.Bytes.{number, bytes}
@@ -22,11 +23,15 @@ joined w h =
     ap₂ (λ (x y : ℕ). x * 2 ^ 8 + y) (low ∙ ap₂ (λ (x y : ℕ). x * 256 + y) (rw second at middle) last) top
     ∙ word_of (byte_of w 1) (byte_of w 2) (byte_of w 3) (byte_of w 0)
 
-rotates : (w : ℕ) → w < 2 ^ 32 → w * 2 ^ 8 % 2 ^ 32 ⊕ w / 2 ^ 24 ≡ rot_word w
+-- Where no place has a 1 in both, `|` is the sum.
+or_apart : (a b : ℕ) → a ⊕ b ≡ a + b → bit_or a b ≡ a + b
+unfolding ◌⊕◌
+or_apart a b e = omega (arith, or_add_and a b, xor_add_and a b, e)
+
+rotates : (w : ℕ) → w < 2 ^ 32 → bit_or (w * 2 ^ 8 % 2 ^ 32) (w / 2 ^ 24) ≡ rot_word w
 rotates w h =
     let up : w * 2 ^ 8 % 2 ^ 32 ≡ w % 2 ^ 24 * 2 ^ 8 = omega arith in
-    rw up (xor_disjoint 8 (w % 2 ^ 24) (w / 2 ^ 24) (omega arith) ∙ joined w h)
+    rw up (or_apart (w % 2 ^ 24 * 2 ^ 8) (w / 2 ^ 24) (xor_disjoint 8 (w % 2 ^ 24) (w / 2 ^ 24) (omega arith)) ∙ joined w h)
 
 pub returns : goal.returns
-unfolding ◌⊕◌
-returns c = rotates c.args.w c.ranges.w.fits
+returns c = c.rotate_left.ensures ∙ rotates c.args.w c.ranges.w.fits
