@@ -1,5 +1,5 @@
 // 01's four functions for the app in C, 02's finding and runs, and 01's four under the encryption-only scheme. include/boards.h declares and explains them; a slice
-// is there a pointer and a length, and `failed` a pointer. Each answers the number of the call that it makes, 0 where the work was done, and carries that call's promises.
+// is there a pointer and a length, and `failed` a pointer. C has no type parameter, so each call for a scheme is a function, and takes a pack and a place as two numbers. Each answers the number of the call that it makes, 0 where the work was done, and carries that call's promises.
 #![tactic(auto)]
 
 ghost use Rattle.std.specs.Prelude.{◌≡◌, length};

@@ -30,7 +30,7 @@ struct Key {
     beta2: Block,
 }
 
-// What a call looks at behind its key, in 02's order.
+// What a call looks at behind its key, in 02's order: the tests are those of every scheme, and stand in `strings`.
 fn judge(tweak: &[u8], message: &[u8]) -> Result<(), Refusal>
     ensures { result ≡ looks_at (tests_behind_key tweak.now message.now) }
 {
@@ -136,7 +136,7 @@ fn decipher_message(expanded: ExpandedKey, tweak: Block, message: &mut [u8])
     finish(expanded, key, key.beta1, sum(a, b), a, message);
 }
 
-// Enciphers the message in place under a key that was expanded before, or refuses and leaves it as it is.
+// Enciphers the message in place under a key that was expanded before, or refuses and leaves it as it is. Here and below, what another scheme shares is a line; the work is its own.
 pub fn encipher_with(expanded: ExpandedKey, tweak: &[u8], message: &mut [u8]) -> Result<(), Refusal>
     ensures value { result ≡ answer_behind_key tweak.now message.old }
     ensures message_after { message.new ≡ left_by (number_of result) ((forward_under expanded).encipher [] tweak.now message.old) message.old }

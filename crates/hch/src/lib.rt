@@ -20,12 +20,14 @@ use primitives::field;
 use strings::message;
 use strings::refusal::Refusal;
 
-// What a call looks at behind its key, in 01's order.
+// What a call looks at behind its key, in 01's order: the tests are those of every scheme, and stand in `strings`.
 fn judge(tweak: &[u8], message: &[u8]) -> Result<(), Refusal>
     ensures { result ≡ looks_at (tests_behind_key tweak.now message.now) }
 {
     message::judge(16, Refusal::TooShort, tweak, message)
 }
+
+// A message is lent whole, and what stands behind its first 16 bytes as a part of it: 01's form. So its length is a fact of four contracts, and no type has it.
 
 // Step 1: Q, from R and the length in bytes.
 fn hash_q(expanded: ExpandedKey, r: Block, length: usize) -> Block
@@ -79,7 +81,7 @@ fn decipher_message(expanded: ExpandedKey, tweak: Block, message: &mut [u8])
     finish(expanded, r, q, m1.xor(u1), m1, message);
 }
 
-// Enciphers the message in place under a key that was expanded before, or refuses and leaves it as it is.
+// Enciphers the message in place under a key that was expanded before, or refuses and leaves it as it is. Here and below, what another scheme shares is a line; the work is its own.
 pub fn encipher_with(expanded: ExpandedKey, tweak: &[u8], message: &mut [u8]) -> Result<(), Refusal>
     ensures value { result ≡ answer_behind_key tweak.now message.old }
     ensures message_after { message.new ≡ left_by (number_of result) ((hch_under expanded).encipher [] tweak.now message.old) message.old }

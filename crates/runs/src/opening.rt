@@ -53,7 +53,8 @@ fn judge(first: u32, lengths: &[u16], run: &[u8]) -> Result<(), Refusal>
     refuse_if(first as usize + n > 65536, Refusal::PlaceTooHigh)
 }
 
-// Enciphers opened blocks again, which gives the lent bytes back.
+// Enciphers opened blocks again, which gives the lent bytes back. The loops of this crate lend each block by its place: what a proof knows of a slice ends with its `chunks_exact_mut`. A
+// run with its places cannot be one value either, since a fact beside a `&mut` gets no proof when the slice is written to.
 fn encipher_blocks<S: Scheme>(expanded: ExpandedKey, start: Position, run: &mut [u8])
     requires { InRange start.place run.old }
     ensures { run.new ≡ blockwise (λ i B. (S.under expanded).encipher [] (tweak_of start.pack (start.place + i)) B) (block_count run.old) run.old }

@@ -1,14 +1,14 @@
 // The commands of a run of blocks: a list of lengths and a run behind the key, the number of the pack and the first place.
-use crate::fields;
 use crate::sealing::Way;
+use crate::{BYTES, ENTRIES, fields};
 use runs::NotOpened;
 use schemes::Scheme;
 
 // Answers a command of a run, or writes nothing.
 pub(crate) fn reply<S: Scheme>(rt: &impl Print, way: Way, key: &[u8], rest: &[u8]) -> Option<()> {
-    let mut bytes = fields::room();
-    let mut list = fields::list_room();
-    let mut run = fields::room();
+    let mut bytes = fields::room::<u8, BYTES>(0);
+    let mut list = fields::room::<u16, ENTRIES>(0);
+    let mut run = fields::room::<u8, BYTES>(0);
     let (start, rest) = fields::position(rest)?;
     let (bytes, rest) = fields::field(rest, &mut bytes)?;
     let lengths = fields::list_from(bytes, &mut list)?;

@@ -1,24 +1,16 @@
 // The fields of a line, and the line of an answer.
 ghost use Rattle.std.specs.Prelude.{◌≡◌, length};
 
-use crate::BYTES;
 use blocks::block::Block;
 use layout::Position;
 use strings::refusal::{self, Refusal};
 
-// Zeros, as room for the bytes of a field. The `ensures` gives only the length, which lending the array as a slice needs: the proof of
+// Room for N bytes of a field, or entries of a list. The `ensures` gives only the length, which lending the array as a slice needs: the proof of
 // a function that made the array would count its elements.
-pub(crate) fn room() -> [u8; BYTES]
-    ensures { 67584 ≡ length result }
+pub(crate) fn room<T: Copy, const N: usize>(zero: T) -> [T; N]
+    ensures { N ≡ length result }
 {
-    [0u8; BYTES]
-}
-
-// Zeros, as room for the entries of a list: all that the digits of a line can stand for.
-pub(crate) fn list_room() -> [u16; BYTES / 2]
-    ensures { 33792 ≡ length result }
-{
-    [0u16; BYTES / 2]
+    [zero; N]
 }
 
 // Decodes the field at the front of `line`, which ends at the first space, to the front of `out`, and answers its bytes and what

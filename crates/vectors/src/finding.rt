@@ -1,10 +1,10 @@
 // The commands that find a block in a pack: the pack, of any length, and a place, and bytes to write there where the pack is lent.
 // They have no key.
-use crate::fields;
+use crate::{BYTES, fields};
 
 // Answers the command, or writes nothing. The place ends the line.
 pub(crate) fn reply(rt: &impl Print, rest: &[u8]) -> Option<()> {
-    let mut pack = fields::room();
+    let mut pack = fields::room::<u8, BYTES>(0);
     let mut bytes = [0u8; 4];
     let (pack, rest) = fields::field(rest, &mut pack)?;
     let place = fields::last_field(rest, &mut bytes)?;
@@ -21,8 +21,8 @@ pub(crate) fn reply(rt: &impl Print, rest: &[u8]) -> Option<()> {
 // finding it leaves the rest of the pack: the answer shows all of it. The part is empty where finding is refused, so that nothing is
 // written.
 pub(crate) fn reply_lent(rt: &impl Print, rest: &[u8]) -> Option<()> {
-    let mut pack = fields::room();
-    let mut block = fields::room();
+    let mut pack = fields::room::<u8, BYTES>(0);
+    let mut block = fields::room::<u8, BYTES>(0);
     let (pack, rest) = fields::field(rest, &mut pack)?;
     let (place, rest) = fields::place(rest)?;
     let block = fields::last_field(rest, &mut block)?;

@@ -56,6 +56,9 @@ const LIMIT: usize = 135168;
 // The most bytes that the digits of a line stand for.
 const BYTES: usize = LIMIT / 2;
 
+// The most entries of a list that they stand for.
+const ENTRIES: usize = BYTES / 2;
+
 // The most bytes that are read at once.
 const CHUNK: usize = 65536;
 
@@ -118,7 +121,7 @@ fn reply(rt: &impl Print, line: &[u8]) -> Option<()> {
 
 // A command under a key of any length. Those of `l` and `g` lend their bytes.
 fn run_keyed(rt: &impl Print, first: u8, second: u8, rest: &[u8]) -> Option<()> {
-    let mut key = fields::room();
+    let mut key = fields::room::<u8, BYTES>(0);
     let (key, rest) = fields::field(rest, &mut key)?;
     match first {
         b'a' => cipher::reply(rt, second.try_into().ok()?, key, rest),
@@ -148,7 +151,7 @@ fn run_either<S: Scheme>(
 
 // A command on blocks.
 fn run_blocks(rt: &impl Print, letter: u8, rest: &[u8]) -> Option<()> {
-    let mut bytes = fields::room();
+    let mut bytes = fields::room::<u8, BYTES>(0);
     let bytes = fields::blocks_from(rest, &mut bytes)?;
     let a = Block::read(bytes, 0);
     let answer = match (letter, bytes.len()) {

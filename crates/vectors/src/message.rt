@@ -1,6 +1,6 @@
 // The commands of the schemes on messages: a key, a tweak and a message, each of any length.
 use crate::cipher::Way;
-use crate::fields;
+use crate::{BYTES, fields};
 use schemes::Scheme;
 
 // Answers a command of a scheme behind its key, or writes nothing.
@@ -11,8 +11,8 @@ pub(crate) fn reply<S: Scheme>(
     key: &[u8],
     rest: &[u8],
 ) -> Option<()> {
-    let mut tweak = fields::room();
-    let mut message = fields::room();
+    let mut tweak = fields::room::<u8, BYTES>(0);
+    let mut message = fields::room::<u8, BYTES>(0);
     let (tweak, rest) = fields::field(rest, &mut tweak)?;
     let message = fields::last_field(rest, &mut message)?;
     let answer = match way {

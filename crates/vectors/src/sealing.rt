@@ -1,5 +1,5 @@
 // The commands of a pack: a key, the number of the pack, a place, and a payload to seal or a block to open.
-use crate::{OtherLetter, fields};
+use crate::{BYTES, OtherLetter, fields};
 use layout::Position;
 use schemes::Scheme;
 
@@ -41,7 +41,7 @@ pub(crate) fn reply<S: Scheme>(
 // Seals the last field of the line as a payload. What the block held before it was sealed has no effect: it is lent not zero, so
 // that an effect would show.
 fn seal<S: Scheme>(rt: &impl Print, key: &[u8], position: Position, rest: &[u8]) -> Option<()> {
-    let mut payload = fields::room();
+    let mut payload = fields::room::<u8, BYTES>(0);
     let payload = fields::last_field(rest, &mut payload)?;
     let mut block = [0xa5u8; 512];
     let answer = pack::seal::<S>(key, payload, position, &mut block);
@@ -56,8 +56,8 @@ fn seal_lent<S: Scheme>(
     position: Position,
     rest: &[u8],
 ) -> Option<()> {
-    let mut payload = fields::room();
-    let mut block = fields::room();
+    let mut payload = fields::room::<u8, BYTES>(0);
+    let mut block = fields::room::<u8, BYTES>(0);
     let (payload, rest) = fields::field(rest, &mut payload)?;
     let block = fields::last_field(rest, &mut block)?;
     let answer = pack::seal::<S>(key, payload, position, block);
@@ -73,7 +73,7 @@ fn open<S: Scheme>(
     position: Position,
     rest: &[u8],
 ) -> Option<()> {
-    let mut block = fields::room();
+    let mut block = fields::room::<u8, BYTES>(0);
     let block = fields::last_field(rest, &mut block)?;
     let answer = pack::open::<S>(key, position, block);
     if let Ok(u) = answer {

@@ -3,7 +3,7 @@ use Prim.Native.Nat.{ℕ, ◌+◌, ◌*◌, ◌<◌}
 use mathlib.Core.Path.{◌≡◌, refl, sym, ap, ◌∙◌}
 use mathlib.Core.List.{List, []}
 use native.Mathlib.Omega.{arith}
-use lib.ListN.{length, length-take}
+use lib.ListN.{length}
 use Rattle.std.specs.Prelude.{Err}
 use Rattle.strings.specs.Bytes.{Bytes}
 use Rattle.strings.specs.Cipher.{TweakableCipher, Scheme}
