@@ -113,7 +113,7 @@ impl Block {
         Block::read(out, at).xor(self).write(out, at);
     }
 
-    // Its four words.
+    // Its four words, the highest first. By a name, and not `From`: the name says that they are words, where halves are numbers too.
     pub fn to_words(self) -> [u32; 4]
         ensures { of_words result ≡ bytes 16 (value self) }
     {

@@ -62,7 +62,7 @@ impl TryFrom<u8> for Command {
 }
 
 // Writes the answer to a line to the front of `out`, leaves the rest of `out`, and returns the
-// number of bytes written.
+// number of bytes written: memory is fixed, and the theorem `in_chunks` speaks of what is left in `out`.
 pub fn answer(line: &[u8], out: &mut [u8; ROOM]) -> usize
     ensures { Written (answer_of line.now) result out.old out.new }
 {
@@ -140,7 +140,8 @@ fn reply(left: &[u8], out: &mut [u8; ROOM]) -> usize
     n + 1
 }
 
-// Writes `no `, the number in decimal and a line feed.
+// Writes `no `, the number in decimal and a line feed, each to its place in the lent bytes: there is no
+// heap for a `format!`.
 pub(crate) fn refuse(why: NoResult, out: &mut [u8; ROOM]) -> usize
     ensures { Written (refusal (number_of why)) result out.old out.new }
 {

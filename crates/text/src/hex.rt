@@ -4,7 +4,8 @@ ghost use Rattle.text.specs.Hex.{digit, is_digit, value, is_hex};
 ghost use Rattle.text.specs.Inner.{before, fitting, encoded_in, decoded_of, field_of, decoded_in};
 
 // Writes the digits of as many whole bytes as `out` has room for to its front, leaves the rest of
-// `out`, and returns the number of characters written.
+// `out`, and returns the number of characters written. Both ways write to lent bytes and count them,
+// since there is no heap; what is left behind them is promised too.
 pub fn encode(bytes: &[u8], out: &mut [u8]) -> usize
     ensures value { result ≡ 2 * fitting bytes.now out.old }
     ensures out_after { out.new ≡ encoded_in bytes.now out.old }
