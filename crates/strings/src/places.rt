@@ -1,5 +1,5 @@
 // Bytes at a place of a string.
-ghost use Rattle.std.specs.Prelude.{◌≡◌, min};
+ghost use Rattle.std.specs.Prelude.{◌≡◌};
 ghost use Rattle.strings.specs.Inner.{overwrite};
 
 // Writes `s` into `out` from place `at` on, cut where `out` ends.
@@ -10,11 +10,4 @@ pub fn write(out: &mut [u8], at: usize, s: &[u8])
         let n = s.len().min(out.len() - at);
         out[at..at + n].copy_from_slice(&s[..n]);
     }
-}
-
-// The lesser of two numbers.
-pub fn least(a: usize, b: usize) -> usize
-    ensures { result ≡ min a b }
-{
-    a.min(b)
 }
