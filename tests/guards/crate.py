@@ -137,11 +137,13 @@ class Crate:
                 yield f"{file}: uses something over lines, which is not read"
             if file.startswith("specs/") and has_other_types(text):
                 yield f"{file}: has a type that is not read"
-            proves = file.startswith("proofs/") or file == LAWS
+            has_impl = any(re.search(r"^impl\b.* for ", source, re.M)
+                           for source in self.source.values())
+            proves = file.startswith("proofs/") or file == LAWS and has_impl
             if not proves and re.search(
                     r"^(pub |ghost )*use .*\.proofs\b", text, re.M):
                 yield f"{file}: uses a module of proofs"
-            if file == LAWS and re.search(r"^(abbrev|unfoldable)\b", text, re.M):
+            if file == LAWS and re.search(r"^ *(abbrev|unfoldable)\b", text, re.M):
                 yield f"{file}: defines something"
         for file, text in self.source.items() if self.is_library else ():
             yield from self.contract_faults(file, text)

@@ -13,13 +13,6 @@ pub struct Block {
     pub lo: u64,
 }
 
-// Two blocks, one after the other.
-#[derive(Clone, Copy)]
-pub struct Pair {
-    pub first: Block,
-    pub second: Block,
-}
-
 // Whether a string of that length has 16 bytes from place `at` on. That may be any number, for no sum is made that could be too large.
 fn whole(length: usize, at: usize) -> bool
     ensures { (result ≡ true → at + 16 ≤ length) × (result ≡ false → length < at + 16) }
@@ -157,7 +150,7 @@ impl Block {
 }
 
 // The first N blocks of a string, as `read` reads them. Where all are whole, they are read with one test for all. Only parts of `s` are lent on: where `s` itself is, the
-// compiler keeps its address and length in memory.
+// compiler keeps its address and length in memory. The array is filled by index: `from_fn` needs clauses at its closure to prove.
 pub fn read_all<const N: usize>(s: &[u8]) -> [Block; N]
     ensures { (i : ℕ) → (none : Block) → i < N → value (slice_index_or result i none) ≡ first_block (drop (16 * i) s.now) }
 {

@@ -109,14 +109,11 @@ pub extern "C" fn boards_open_run(
     ensures failed_after { failed.new ≡ failed_place (answer_of_run_opening scheme key.now pack first lengths.old run.old) failed.old }
     ensures run_meaning { RunMeaning scheme (answer_of_run_opening scheme key.now pack first lengths.old run.old) key.now pack first lengths.old run.old lengths.new run.new }
 {
-    let Err(not_opened) = runs::open_run::<Hch>(key, Position { pack, place: first }, lengths, run)
-    else {
-        return 0;
-    };
-    if let NotOpened::Failed(_, place) = not_opened {
+    let opened = runs::open_run::<Hch>(key, Position { pack, place: first }, lengths, run);
+    if let Err(NotOpened::Failed(_, place)) = opened {
         *failed = place;
     }
-    not_opened.number()
+    runs::number(opened)
 }
 
 // Enciphers the message in place by the encryption-only scheme.

@@ -19,7 +19,7 @@ pub(crate) fn power(powers: &[u64; 16], i: usize) -> Block
     Block::ZERO
 }
 
-// The powers that n blocks need, each the square of the one before.
+// The powers that n blocks need, each the square of the one before, which is why they are made by index and not by `from_fn`.
 pub fn prepare(t: Block, n: usize) -> [u64; 16]
     ensures { (i : ℕ) → power_at result i ≡ prepared (value t) n i }
 {

@@ -1,18 +1,17 @@
 // The encryption-only scheme of source document 000 over AES, on lent bytes. Only AES's encryption is used, both ways.
 #![tactic(auto)]
 
-ghost use Rattle.std.specs.Prelude.{ℕ, ◌*◌, ◌≤◌, ◌≡◌, true, [], length, drop};
-ghost use Rattle.strings.specs.Cipher.{TweakableCipher, Same};
+ghost use Rattle.std.specs.Prelude.{◌*◌, ◌≤◌, ◌≡◌, [], length, drop};
 ghost use Rattle.strings.specs.Xor.{◌⊕◌};
 ghost use Rattle.strings.specs.Call.{number_of, looks_at, left_by};
-ghost use Rattle.strings.specs.Message.{IsCipher, OnePlaintext};
+ghost use Rattle.strings.specs.Message.{IsCipher};
 ghost use Rattle.blocks.specs.Blocks.{first_block, blocks};
 ghost use Rattle.blocks.specs.BlockField.{times_x, power_sum};
 ghost use Rattle.blocks.specs.Inner.{value};
-ghost use Rattle.primitives.specs.Expanded.{expanded_key, under};
-ghost use Rattle.forward.specs.Forward.{behind_two, KeyDef1, Υ, Feistel, swapped_feistel, encipher, decipher, enciphered, deciphered, forward as scheme};
+ghost use Rattle.primitives.specs.Expanded.{under};
+ghost use Rattle.forward.specs.Forward.{behind_two, KeyDef1, Υ, Feistel, swapped_feistel, encipher, decipher};
 ghost use Rattle.forward.specs.Inner.{values, hash_key, from_m};
-ghost use Rattle.forward.specs.Call.{tests_behind_key, answer_of, answer_behind_key};
+ghost use Rattle.forward.specs.Call.{tests_behind_key, answer_behind_key};
 ghost use Rattle.forward.specs.Expanded.{forward_under};
 
 use blocks::block::Block;
@@ -30,12 +29,16 @@ struct Key {
     beta2: Block,
 }
 
-// What a call looks at behind its key, in 02's order: the tests are those of every scheme, and stand in `strings`.
+// What a call looks at behind its key, in 02's order: the tests stand in `strings`, for every scheme. One function for both schemes would be no
+// plainer: it takes the two words that differ, and so does `message::judge`.
 fn judge(tweak: &[u8], message: &[u8]) -> Result<(), Refusal>
     ensures { result ≡ looks_at (tests_behind_key tweak.now message.now) }
 {
     message::judge(33, Refusal::ForwardTooShort, tweak, message)
 }
+
+// A message is lent whole, and what stands behind its first 32 bytes as a part of it: 01's form, which `finish` has. So its length is a fact of four contracts, and no type has it: a
+// fact beside a `&mut` gets no proof when the slice is written to.
 
 // Table 3, KeyDef1, from the tweak and the length in bytes.
 fn key_def1(expanded: ExpandedKey, tweak: Block, length: usize) -> Key
@@ -136,7 +139,8 @@ fn decipher_message(expanded: ExpandedKey, tweak: Block, message: &mut [u8])
     finish(expanded, key, key.beta1, sum(a, b), a, message);
 }
 
-// Enciphers the message in place under a key that was expanded before, or refuses and leaves it as it is. Here and below, what another scheme shares is a line; the work is its own.
+// Enciphers the message in place under a key that was expanded before, or refuses and leaves it as it is. Here and below one function over the
+// work would be no plainer: what both schemes share is the line of the tests.
 pub fn encipher_with(expanded: ExpandedKey, tweak: &[u8], message: &mut [u8]) -> Result<(), Refusal>
     ensures value { result ≡ answer_behind_key tweak.now message.old }
     ensures message_after { message.new ≡ left_by (number_of result) ((forward_under expanded).encipher [] tweak.now message.old) message.old }

@@ -1,17 +1,16 @@
 // HCH of Chakraborty and Sarkar over AES, on lent bytes.
 #![tactic(auto)]
 
-ghost use Rattle.std.specs.Prelude.{ℕ, ◌≤◌, ◌≡◌, true, [], length};
-ghost use Rattle.strings.specs.Cipher.{TweakableCipher, Same};
+ghost use Rattle.std.specs.Prelude.{◌≤◌, ◌≡◌, [], length};
 ghost use Rattle.strings.specs.Xor.{◌⊕◌};
 ghost use Rattle.blocks.specs.Blocks.{blocks};
 ghost use Rattle.blocks.specs.BlockField.{times_x, power_sum};
 ghost use Rattle.blocks.specs.Inner.{value};
-ghost use Rattle.primitives.specs.Expanded.{expanded_key, under};
+ghost use Rattle.primitives.specs.Expanded.{under};
 ghost use Rattle.strings.specs.Call.{number_of, looks_at, left_by};
-ghost use Rattle.hch.specs.Hch.{length_block, behind_first, H as polynomial_hash, encipher, decipher, enciphered, deciphered, hch as scheme};
+ghost use Rattle.hch.specs.Hch.{length_block, behind_first, H as polynomial_hash, encipher, decipher};
 ghost use Rattle.hch.specs.Inner.{from_i};
-ghost use Rattle.hch.specs.Call.{tests_behind_key, answer_of, answer_behind_key, IsCipher, OnePlaintext};
+ghost use Rattle.hch.specs.Call.{tests_behind_key, answer_behind_key};
 ghost use Rattle.hch.specs.Expanded.{hch_under, IsCipherUnder};
 
 use blocks::block::Block;
@@ -20,14 +19,16 @@ use primitives::field;
 use strings::message;
 use strings::refusal::Refusal;
 
-// What a call looks at behind its key, in 01's order: the tests are those of every scheme, and stand in `strings`.
+// What a call looks at behind its key, in 01's order: the tests stand in `strings`, for every scheme. One function for both schemes would be no
+// plainer: it takes the two words that differ, and so does `message::judge`.
 fn judge(tweak: &[u8], message: &[u8]) -> Result<(), Refusal>
     ensures { result ≡ looks_at (tests_behind_key tweak.now message.now) }
 {
     message::judge(16, Refusal::TooShort, tweak, message)
 }
 
-// A message is lent whole, and what stands behind its first 16 bytes as a part of it: 01's form. So its length is a fact of four contracts, and no type has it.
+// A message is lent whole, and what stands behind its first 16 bytes as a part of it: 01's form, which `finish` has. So its length is a fact of four contracts, and no type has it: a
+// fact beside a `&mut` gets no proof when the slice is written to.
 
 // Step 1: Q, from R and the length in bytes.
 fn hash_q(expanded: ExpandedKey, r: Block, length: usize) -> Block
@@ -81,7 +82,8 @@ fn decipher_message(expanded: ExpandedKey, tweak: Block, message: &mut [u8])
     finish(expanded, r, q, m1.xor(u1), m1, message);
 }
 
-// Enciphers the message in place under a key that was expanded before, or refuses and leaves it as it is. Here and below, what another scheme shares is a line; the work is its own.
+// Enciphers the message in place under a key that was expanded before, or refuses and leaves it as it is. Here and below one function over the
+// work would be no plainer: what both schemes share is the line of the tests.
 pub fn encipher_with(expanded: ExpandedKey, tweak: &[u8], message: &mut [u8]) -> Result<(), Refusal>
     ensures value { result ≡ answer_behind_key tweak.now message.old }
     ensures message_after { message.new ≡ left_by (number_of result) ((hch_under expanded).encipher [] tweak.now message.old) message.old }

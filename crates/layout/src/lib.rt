@@ -13,7 +13,8 @@ mod finding;
 pub use finding::{find, find_answer, find_mut, is_pack};
 use strings::number;
 
-// Compares a part of a block with a number in as many bytes, each byte of it: 0 where they are the same.
+// Compares a part of a block with a number in as many bytes, each byte of it, the last first: 0 where they are the same. Over `part.iter().rev()` it is no plainer: what is proved
+// at each turn goes by the place.
 fn difference(part: &[u8], value: u64) -> u8
     ensures { eqb result 0 ≡ equal part.now (bytes (length part.now) value) }
 {

@@ -1,6 +1,5 @@
 // The lines of an input that arrives in chunks. What is kept from chunk to chunk is the line under
 // way, in a buffer for LONGEST characters.
-ghost use Rattle.std.specs.Prelude.{◌≡◌};
 ghost use Rattle.line.specs.Line.{Written};
 ghost use Rattle.line.specs.Input.{last_answer};
 ghost use Rattle.line.specs.Inner.{kept_answer, Stepped};

@@ -49,7 +49,7 @@ fn round_constant(j: usize) -> u32
     u32::from_be_bytes([RCON[j - 1], 0, 0, 0])
 }
 
-// Where the word Nk * j + m stands. Both numbers are counted: with `i / nk` and `i % nk` an expansion takes 1.24 times as long for a key of 16 bytes and 1.3 times for one of 32.
+// Nk has 4 to 8 words in the four functions below, and 60 hold the longest: a number with a bound, which a type would only repeat. Where the word Nk * j + m stands. Both numbers are counted: with `i / nk` and `i % nk` an expansion takes 1.24 times as long for a key of 16 bytes and 1.3 times for one of 32.
 #[derive(Clone, Copy)]
 struct Place {
     j: usize,
@@ -89,7 +89,7 @@ fn temp(table: &state::Table, nk: usize, place: Place, before: u32) -> u32
     sub_word(table, before)
 }
 
-// The key's own words, and zeros behind them.
+// The key's own words, and zeros behind them. Here and in the expansion words go by their number, as in FIPS 197, and an array that is longer than they are is filled by index.
 fn own_words(key: &[u8], nk: usize) -> state::Words
     requires { nk ≤ 8 }
     ensures { result ≡ key_words nk key.now nk ++ replicate (60 - nk) 0 }
@@ -201,7 +201,7 @@ impl ExpandedKey {
         self.enciphered(input).add_to(message, 16 * i);
     }
 
-    // Counter mode on lent bytes, block by block where they stand, the last cut as it was: E(s ⊕ bin(i)) is added to block i, from 1 on.
+    // Counter mode on lent bytes, block by block where they stand, by their number, since of a slice that was lent by `chunks_mut` a proof knows the length alone; the last cut as it was: E(s ⊕ bin(i)) is added to block i, from 1 on.
     pub fn counter(self, s: Block, message: &mut [u8])
         ensures { message.new ≡ masked_bytes (λ i. (under self).E (value s ⊕ bin i)) 1 message.old }
     {

@@ -1,6 +1,6 @@
 -- What a cipher of 512 bytes makes of the blocks of a run: blocks again, and what was deciphered is given back.
 -- Assumes nothing.
-use Prim.Native.Nat.{ℕ, ◌+◌, ◌-◌, ◌*◌, ◌/◌, ◌%◌, ◌^◌, ◌≤◌, ◌<◌}
+use Prim.Native.Nat.{ℕ, zero, suc, ◌+◌, ◌-◌, ◌*◌, ◌/◌, ◌%◌, ◌^◌, ◌≤◌, ◌<◌}
 use mathlib.Core.Path.{◌≡◌, ap, ◌∙◌}
 use mathlib.Core.List.{List, [], ◌∷◌, ◌++◌}
 use native.Mathlib.Omega.{arith}
@@ -8,6 +8,7 @@ use lib.ListN.{length, get_or, take, drop, take-append-drop}
 use lib.Seq.{length-take-le}
 use Rattle.strings.specs.Bytes.{Bytes, OfLength, number}
 use Rattle.strings.specs.Inner.{padded}
+use Rattle.strings.specs.Call.{left_by}
 use Rattle.strings.specs.Cipher.{TweakableCipher, Scheme}
 use Rattle.strings.proofs.Bytes.{below_take, below_drop}
 use Rattle.layout.specs.Layout.{tweak, used}
@@ -26,6 +27,11 @@ use Rattle.runs.proofs.Blocks.{length-blockwise, walked_front, walked_rest, part
 pub part_of_length : (i : ℕ) (run : List ℕ) → Bytes run → 512 * i + 512 ≤ length run → OfLength 512 (part i run)
 unfolding part
 part_of_length i run b h = (part_length i run h, below_take 512 (drop (512 * i) run) (below_drop (512 * i) run b))
+
+-- What is left by a number has the length of both.
+pub left-length : (number k : ℕ) (work lent : List ℕ) → length work ≡ k → length lent ≡ k → length (left_by number work lent) ≡ k
+left-length zero k work lent h l = h
+left-length (suc n) k work lent h l = l
 
 -- u of a block, as the code reads it: two bytes.
 pub used-at : (i : ℕ) (run : List ℕ) {B : List ℕ} → Bytes run → 512 * i + 512 ≤ length run → B ≡ part i run

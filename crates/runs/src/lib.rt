@@ -5,5 +5,5 @@ mod opening;
 mod places;
 mod sealing;
 
-pub use opening::{NotOpened, open_run};
+pub use opening::{NotOpened, number, open_run};
 pub use sealing::seal_run;

@@ -13,7 +13,6 @@ use crate::places;
 use layout::Position;
 use primitives::aes::ExpandedKey;
 use schemes::Scheme;
-use strings::number;
 use strings::refusal::{Refusal, refuse_if};
 
 // Why a run was not opened: for a reason of its own, or since the block of a place was not opened, the first such place.
@@ -40,6 +39,16 @@ impl From<Refusal> for NotOpened {
 
     fn from(why: Refusal) -> Self {
         Self::Refused(why)
+    }
+}
+
+// The number of what opening a run answered, 0 where the work was done.
+pub fn number(opened: Result<(), NotOpened>) -> u32
+    ensures { result ≡ number_of opened }
+{
+    match opened {
+        Ok(()) => 0,
+        Err(not_opened) => not_opened.number(),
     }
 }
 
@@ -77,8 +86,8 @@ fn open_in_turn<S: Scheme>(
 {
     for i in 0..run.len() / 512 {
         let at = 512 * i;
-        let position = places::place_of(start, i);
-        if let Err(why) = pack::open_with::<S>(expanded, position, &mut run[at..at + 512]) {
+        let here = places::place_of(start, i);
+        if let Err(why) = pack::open_with::<S>(expanded, here, &mut run[at..at + 512]) {
             return Err((i, why));
         }
     }
@@ -108,7 +117,7 @@ fn put_lengths(run: &[u8], lengths: &mut [u16])
 {
     for i in 0..lengths.len() {
         let at = 512 * i;
-        lengths[i] = number::get(&run[at..at + 512], 508, 2) as u16;
+        lengths[i] = strings::number::get(&run[at..at + 512], 508, 2) as u16;
     }
 }
 
@@ -127,7 +136,8 @@ pub fn open_run<S: Scheme>(
 {
     let expanded = schemes::expand::<S>(key)?;
     judge(start.place, lengths, run)?;
-    open_blocks::<S>(expanded, start, run)?;
+    let opened = open_blocks::<S>(expanded, start, run);
+    opened?;
     put_lengths(run, lengths);
     Ok(())
 }

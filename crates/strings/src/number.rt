@@ -1,4 +1,4 @@
-// Numbers as they stand in a string, big-endian: the first byte is the highest.
+// Numbers as they stand in a string, big-endian: the first byte is the highest. Both loops go by the place, which the string may not have.
 ghost use Rattle.std.specs.Prelude.{◌%◌, ◌^◌, ◌≡◌, drop};
 ghost use Rattle.strings.specs.Bytes.{number, bytes};
 ghost use Rattle.strings.specs.Inner.{padded, overwrite};

@@ -20,7 +20,7 @@ pub enum Refusal {
 }
 
 impl Refusal {
-    // Its number in 01 or 02.
+    // Its number in 01 or 02. By a name, and not `From`: 01 calls it the number.
     pub fn number(self) -> u32
         ensures { result ≡ refusal_number self }
     {

@@ -5,7 +5,8 @@ ghost use Rattle.text.specs.Inner.{before, fitting, encoded_in, decoded_of, fiel
 
 // Writes the digits of as many whole bytes as `out` has room for to its front, leaves the rest of
 // `out`, and returns the number of characters written. Both ways write to lent bytes and count them,
-// since there is no heap; what is left behind them is promised too.
+// since there is no heap; what is left behind them is promised too. They fill `out` by index: of a slice
+// that was lent by `iter_mut` a proof knows the length alone.
 pub fn encode(bytes: &[u8], out: &mut [u8]) -> usize
     ensures value { result ≡ 2 * fitting bytes.now out.old }
     ensures out_after { out.new ≡ encoded_in bytes.now out.old }

@@ -1,6 +1,6 @@
 // A line collected from chunks. A reader finds the line feed in a chunk, appends the part in front
 // of it to the line so far, and goes on with the next chunk.
-ghost use Rattle.std.specs.Prelude.{◌≡◌, Some, replicate, option_map};
+ghost use Rattle.std.specs.Prelude.{◌≡◌, Some, option_map};
 ghost use Rattle.text.specs.Inner.{line_with, kept_with, line_of, is_empty};
 
 // The line under way: its characters stand at the front of `chars`, and `kept` says how many they

@@ -28,10 +28,7 @@ pub(crate) fn reply<S: Scheme>(rt: &impl Print, way: Way, key: &[u8], rest: &[u8
 
 // Writes the number, the place of a block that would not open, the list and the run.
 fn put_opened(rt: &impl Print, answer: Result<(), NotOpened>, lengths: &[u16], run: &[u8]) {
-    match answer {
-        Ok(()) => fields::put_number(rt, 0),
-        Err(why) => fields::put_number(rt, why.number() as u64),
-    }
+    fields::put_number(rt, runs::number(answer) as u64);
     if let Err(NotOpened::Failed(_, place)) = answer {
         fields::put_number(rt, place as u64);
     }

@@ -119,7 +119,7 @@ fn reply(rt: &impl Print, line: &[u8]) -> Option<()> {
     }
 }
 
-// A command under a key of any length. Those of `l` and `g` lend their bytes.
+// A command under a key of any length. Those of `l` and `g` lend their bytes. The letters are read here and in `reply`, by patterns: an enum for the first would be matched once more.
 fn run_keyed(rt: &impl Print, first: u8, second: u8, rest: &[u8]) -> Option<()> {
     let mut key = fields::room::<u8, BYTES>(0);
     let (key, rest) = fields::field(rest, &mut key)?;

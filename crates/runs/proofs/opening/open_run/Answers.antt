@@ -12,6 +12,7 @@ use Rattle.strings.specs.Cipher.{Scheme, Same}
 use Rattle.strings.specs.declared.refusal.Refusal.TheVariants.{KeyLength}
 use Rattle.strings.proofs.Refusals.{made, refusal_leaves}
 use Rattle.layout.specs.Layout.{used}
+use Rattle.layout.proofs.Parts.{whole_blocks}
 use Rattle.layout.specs.Finding.{block_count}
 use Rattle.pack.proofs.Same.{same_cipher}
 use Rattle.runs.specs.Run.{blockwise}
@@ -21,7 +22,7 @@ use Rattle.runs.specs.Inner.{OpensBlocks}
 use Rattle.runs.proofs.Limits.{Admitted, openable, no_test_holds, in_range}
 use Rattle.runs.proofs.Meaning.{means}
 use Rattle.runs.proofs.Same.{same_in_turn, same_deciphered_run}
-use Rattle.runs.proofs.Sizes.{deciphered-length, lengths_read}
+use Rattle.runs.proofs.Sizes.{left-length, deciphered-length, lengths_read}
 use Rattle.runs.proofs.opening.open_run.Goals as goal
 
 -- What the blocks answer and leave under the expanded key is what they do under the key.
@@ -40,16 +41,16 @@ admitted S key first lengths run is_key e =
     let told : looks_at (tests S key first lengths run) ≡ Ok tt = rw is_key e in
     openable S key first lengths run (ap number_of_tests told)
 
-pub open_blocks-requires : goal.open_blocks-requires
-open_blocks-requires g c =
+pub open_blocks-opened-requires : goal.open_blocks-opened-requires
+open_blocks-opened-requires g c =
     let a = c.args in
     let S = g.S.Scheme.scheme in
     let known = admitted S a.key.now a.start.place a.lengths.now a.run.now (made _ _ KeyLength c.expand.ensures.value c.in_ok-expanded.was)
     (sym c.judge.ensures ∙ c.in_ok-judge.was) in
     in_range S a.key.now a.start.place a.lengths.now a.run.now known
 
-pub returns-in_err-open_blocks : goal.returns-in_err-open_blocks
-returns-in_err-open_blocks g c =
+pub returns-in_err-opened : goal.returns-in_err-opened
+returns-in_err-opened g c =
     let a = c.args in
     let S = g.S.Scheme.scheme in
     let key = a.key.now in
@@ -60,14 +61,14 @@ returns-in_err-open_blocks g c =
     let known = admitted S key first lengths run (made _ _ KeyLength c.expand.ensures.value c.in_ok-expanded.was) (sym c.judge.ensures ∙ c.in_ok-judge.was) in
     let same = c.in_ok-expanded.ensures.same in
     let cipher = same_cipher same 16 512 (c.in_ok-expanded.ensures.by_index 512 g.S.Scheme.laws.takes_blocks) in
-    let answer = c.from_residual-in_err-open_blocks.result in
-    let handed : answer ≡ c.open_blocks.result = search rules in
-    let refused : c.open_blocks.result ≡ Err c.in_err-open_blocks.field-0.0 = c.in_err-open_blocks.was in
-    let o = c.open_blocks.ensures in
+    let answer = c.from_residual-in_err-opened.result in
+    let handed : answer ≡ c.open_blocks-opened.result = search rules in
+    let refused : c.open_blocks-opened.result ≡ Err c.in_err-opened.field-0.0 = c.in_err-opened.was in
+    let o = c.open_blocks-opened.ensures in
     let e = handed ∙ answered same pack first lengths run known o in
-    let l : c.open_blocks.new.run ≡ left_by (number_of answer) (deciphered_run S key pack first run) run = rw handed (left same pack first lengths run known o) in
+    let l : c.open_blocks-opened.new.run ≡ left_by (number_of answer) (deciphered_run S key pack first run) run = rw handed (left same pack first lengths run known o) in
     let list : lengths ≡ left_by (number_of answer) (used_lengths S key pack first run) lengths =
-    rw (handed ∙ refused) (refusal_leaves (why_of c.in_err-open_blocks.field-0.0) (used_lengths S key pack first run) lengths) in
+    rw (handed ∙ refused) (refusal_leaves (why_of c.in_err-opened.field-0.0) (used_lengths S key pack first run) lengths) in
     record {
       value = e;
       run_after = l;
@@ -86,8 +87,9 @@ put_lengths-requires g c =
     let known = admitted S a.key.now first lengths run (made _ _ KeyLength c.expand.ensures.value c.in_ok-expanded.was) (sym c.judge.ensures ∙ c.in_ok-judge.was) in
     let same = c.in_ok-expanded.ensures.same in
     let cipher = same_cipher same 16 512 (c.in_ok-expanded.ensures.by_index 512 g.S.Scheme.laws.takes_blocks) in
-    let l = left same pack first lengths run known (rw c.in_ok-open_blocks.was at c.open_blocks.ensures) in
-    rw l (deciphered-length S a.key.now cipher pack first run (λ i. (c.slice_known-2-1.given i).fits) ∙ ap (λ (n : ℕ). 512 * n) (sym known.list_length))
+    let opened = deciphered-length S a.key.now cipher pack first run (λ i. (c.slice_known-2-1.given i).fits) in
+    let size = left-length (number_of c.open_blocks-opened.result) (512 * block_count run) (deciphered_run S a.key.now pack first run) run opened (sym (whole_blocks run known.is_run)) in
+    rw (left same pack first lengths run known c.open_blocks-opened.ensures) (size ∙ ap (λ (n : ℕ). 512 * n) (sym known.list_length))
 
 pub returns : goal.returns
 returns g c =
@@ -102,9 +104,9 @@ returns g c =
     let same = c.in_ok-expanded.ensures.same in
     let cipher = same_cipher same 16 512 (c.in_ok-expanded.ensures.by_index 512 g.S.Scheme.laws.takes_blocks) in
     let bytes : Bytes run = λ i. (c.slice_known-2-1.given i).fits in
-    let o = rw c.in_ok-open_blocks.was at c.open_blocks.ensures in
+    let o = rw c.in_ok-opened.was at c.open_blocks-opened.ensures in
     let e = answered same pack first lengths run known o in
-    let l : c.open_blocks.new.run ≡ deciphered_run S key pack first run = left same pack first lengths run known o in
+    let l : c.open_blocks-opened.new.run ≡ deciphered_run S key pack first run = left same pack first lengths run known o in
     let read : blockwise (λ i B. used B ∷ []) (length lengths) (deciphered_run S key pack first run) ≡ used_lengths S key pack first run =
     rw known.list_length (lengths_read S key cipher pack first run bytes) in
     let list : c.put_lengths.new.lengths ≡ used_lengths S key pack first run = rw (c.put_lengths.ensures, l) read in
