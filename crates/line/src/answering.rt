@@ -40,7 +40,8 @@ impl From<Refusal> for NoResult {
     }
 }
 
-// What a line asks for.
+// What a line asks for. It is a character of the line, so one `match` in `run` chooses the call: a closure in
+// its place would be chosen by the same match.
 #[derive(Clone, Copy)]
 enum Command {
     Encipher,

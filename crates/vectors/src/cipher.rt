@@ -3,7 +3,8 @@ use crate::{OtherLetter, fields};
 use blocks::block::Block;
 use primitives::aes::ExpandedKey;
 
-// Which way a cipher goes.
+// Which way a cipher goes. It is a letter of the line, and each command has one `match` on it: a closure in its place would be chosen
+// by the same match.
 #[derive(Clone, Copy, Debug, PartialEq, Eq)]
 pub(crate) enum Way {
     Encipher,

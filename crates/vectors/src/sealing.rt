@@ -3,7 +3,7 @@ use crate::{BYTES, OtherLetter, fields};
 use layout::Position;
 use schemes::Scheme;
 
-// What is done with a block, or with a run of blocks.
+// What is done with a block, or with a run of blocks: a letter of the line, with one `match` in each command, as in `cipher`.
 #[derive(Clone, Copy, Debug, PartialEq, Eq)]
 pub(crate) enum Way {
     Seal,
