@@ -23,7 +23,7 @@ fn split_at(length: usize) -> Split
     requires { 48 < length }
     ensures { SplitOf length result }
 {
-    let n = length / 16 + (length % 16 + 15) / 16;
+    let n = length.div_ceil(16);
     let exponent = 63 - usize::leading_zeros(n) as usize;
     let at = 16 * ((1usize << exponent) - 1);
     Split {

@@ -11,34 +11,28 @@ use Rattle.brw.proofs.Largest.{between}
 use Rattle.brw.proofs.Squares.{largest_by_zeros}
 use Rattle.brw.proofs.evaluation.split_at.Goals as goal
 
--- The number of blocks, as the code has it, and the place of its highest 1.
-abbrev counted : ℕ → ℕ
-counted l = l / 16 + (l % 16 + 15) / 16
-
+-- The place of the highest 1 of the number of blocks.
 abbrev highest : ℕ → ℕ
-highest l = 63 - count_leading_zeros 64 (counted l)
+highest n = 63 - count_leading_zeros 64 n
 
-counted_is : (l : ℕ) → counted l ≡ (l + 15) / 16
-counted_is l = omega arith
-
-record Known (l : ℕ) : Type 0 where
-  zeros : count_leading_zeros 64 (counted l) ≤ 63
-  small : highest l < 64
-  power_of : 2 ^ highest l ≡ largest_power ((l + 15) / 16)
-  shifted : 1 * 2 ^ highest l % 2 ^ 64 ≡ largest_power ((l + 15) / 16)
+record Known (l n : ℕ) : Type 0 where
+  zeros : count_leading_zeros 64 n ≤ 63
+  small : highest n < 64
+  power_of : 2 ^ highest n ≡ largest_power ((l + 15) / 16)
+  shifted : 1 * 2 ^ highest n % 2 ^ 64 ≡ largest_power ((l + 15) / 16)
   positive : 0 < largest_power ((l + 15) / 16)
   within : largest_power ((l + 15) / 16) ≤ (l + 15) / 16
 
-known : (l : ℕ) → 48 < l → l < 2 ^ 64 → Known l
+known : (l n : ℕ) → 48 < l → l < 2 ^ 64 → n ≡ l / 16 + min 1 (l % 16) → Known l n
 unfolding exponent_of
-known l h m =
-    let n : ℕ = (l + 15) / 16 in
-    let e : counted l ≡ n = counted_is l in
-    let some : 0 < n = omega arith in
-    let fits : n < 2 ^ 64 = omega arith in
-    let b = between n some in
-    let t = leading_top 64 (counted l) (rw e some) (rw e fits) in
-    let p : 2 ^ highest l ≡ largest_power n = rw e (largest_by_zeros n some fits) in
+known l n h m counted =
+    let k : ℕ = (l + 15) / 16 in
+    let e : n ≡ k = omega (arith, counted) in
+    let some : 0 < k = omega arith in
+    let fits : k < 2 ^ 64 = omega arith in
+    let b = between k some in
+    let t = leading_top 64 n (rw e some) (rw e fits) in
+    let p : 2 ^ highest n ≡ largest_power k = rw e (largest_by_zeros k some fits) in
     record {
       zeros = omega (arith, t.1);
       small = omega arith;
@@ -56,26 +50,26 @@ behind_it k l h m = omega arith
 
 pub overflow_mul-at : goal.overflow_mul-at
 overflow_mul-at c =
-    let k = known c.args.length c.requires (search rules) in
+    let k = known c.args.length c.div_ceil-n.result c.requires (search rules) c.div_ceil-n.ensures in
     record { fits = rw k.shifted (lt_of_le_of_lt (before_it _ c.args.length k.within) (search rules)) }
 
 pub overflow_sub-length : goal.overflow_sub-length
 overflow_sub-length c =
-    let k = known c.args.length c.requires (search rules) in
+    let k = known c.args.length c.div_ceil-n.result c.requires (search rules) c.div_ceil-n.ensures in
     rw k.shifted (before_it _ c.args.length k.within)
 
 pub overflow_add-result : goal.overflow_add-result
 overflow_add-result c =
     let l = c.args.length in
-    let k = known l c.requires (search rules) in
-    let end : 16 * (1 * 2 ^ highest l % 2 ^ 64 - 1) + c.min.result ≡ min (16 * largest_power ((l + 15) / 16)) l =
+    let k = known l c.div_ceil-n.result c.requires (search rules) c.div_ceil-n.ensures in
+    let end : 16 * (1 * 2 ^ highest c.div_ceil-n.result % 2 ^ 64 - 1) + c.min.result ≡ min (16 * largest_power ((l + 15) / 16)) l =
     rw (c.min.ensures, k.shifted) (behind_it (largest_power ((l + 15) / 16)) l k.positive k.within) in
     record { fits = rw end (lt_of_le_of_lt (min-le_right _ l) (search rules)) }
 
 pub returns : goal.returns
 returns c =
     let l = c.args.length in
-    let k = known l c.requires (search rules) in
-    let end : 16 * (1 * 2 ^ highest l % 2 ^ 64 - 1) + c.min.result ≡ min (16 * largest_power ((l + 15) / 16)) l =
+    let k = known l c.div_ceil-n.result c.requires (search rules) c.div_ceil-n.ensures in
+    let end : 16 * (1 * 2 ^ highest c.div_ceil-n.result % 2 ^ 64 - 1) + c.min.result ≡ min (16 * largest_power ((l + 15) / 16)) l =
     rw (c.min.ensures, k.shifted) (behind_it (largest_power ((l + 15) / 16)) l k.positive k.within) in
     record { small = k.small; power_of = k.power_of; kth = rw k.shifted; behind = end }
