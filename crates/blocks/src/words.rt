@@ -1,4 +1,4 @@
-// Four words as 16 bytes, the highest byte of each word first. The loops write by index: `map` takes 3.5 times as long, and `from_fn` needs clauses at its closure to prove.
+// Four words as 16 bytes, the highest byte of each word first, by names that say so: `From` would not. The loops write by index: `map` takes 3.5 times as long, and `from_fn` needs clauses at its closure to prove.
 ghost use Rattle.std.specs.Prelude.{[], ◌∷◌, ◌≡◌, ◌%◌, get_or};
 ghost use Rattle.strings.specs.Bytes.{number, bytes};
 ghost use Rattle.blocks.specs.Inner.{of_words};

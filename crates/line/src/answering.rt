@@ -21,7 +21,7 @@ pub(crate) enum NoResult {
 }
 
 impl NoResult {
-    // Its number in 01.
+    // Its number in 01, as `runs::NotOpened` has one.
     fn number(self) -> u32
         ensures { result ≡ number_of self }
     {

@@ -9,7 +9,7 @@ use crate::{LONGEST, ROOM};
 use text::part::LineBuffer;
 
 // What a call of `next` did: how many bytes of the chunk it used up, and how many bytes of an answer
-// it wrote.
+// it wrote: the answer stands at the front of the lent `out`, since there is no heap.
 #[derive(Clone, Copy)]
 pub struct Step {
     pub used: usize,

@@ -49,14 +49,14 @@ fn round_constant(j: usize) -> u32
     u32::from_be_bytes([RCON[j - 1], 0, 0, 0])
 }
 
-// Nk has 4 to 8 words in the four functions below, and 60 hold the longest: a number with a bound, which a type would only repeat. Where the word Nk * j + m stands. Both numbers are counted: with `i / nk` and `i % nk` an expansion takes 1.24 times as long for a key of 16 bytes and 1.3 times for one of 32.
+// Where the word Nk * j + m stands. Both numbers are counted: with `i / nk` and `i % nk` an expansion takes 1.24 times as long for a key of 16 bytes and 1.3 times for one of 32.
 #[derive(Clone, Copy)]
 struct Place {
     j: usize,
     m: usize,
 }
 
-// The place behind another.
+// The place behind another. Nk is 4 to 8 and j at most 10 in the functions below: numbers with bounds, which types for them would only repeat.
 fn next_place(nk: usize, place: Place) -> Place
     requires { (place.m < nk) × (place.j ≤ 10) }
     ensures m_value { nk * result.j + result.m ≡ nk * place.j + place.m + 1 }
@@ -153,7 +153,7 @@ impl ExpandedKey {
         })
     }
 
-    // Cipher, 5.1.
+    // Cipher, 5.1. Here and in its inverse rounds go by their number, as in FIPS 197.
     fn cipher(&self, w: state::Columns) -> state::Columns
         ensures { of_columns result ≡ cipher (round_key self.now.words) (rounds_done self.now.rounds) (of_columns w) }
     {

@@ -1,4 +1,5 @@
 // InvMixColumns, FIPS 197, 5.3.3: for each byte the column that it adds from row 0, 0e, 09, 0d and 0b times the byte.
+// Handed out by a function, as in `sbox`.
 ghost use Rattle.primitives.specs.Inner.{MixingTable};
 ghost use Rattle.primitives.specs.Aes.{◌•◌};
 

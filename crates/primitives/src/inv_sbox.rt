@@ -1,4 +1,5 @@
 // The inverse S-box of FIPS 197, 5.3.2.
+// Handed out by a function, as in `sbox`.
 ghost use Rattle.primitives.specs.Inner.{Table};
 ghost use Rattle.primitives.specs.Aes.{inv_s_box};
 

@@ -1,5 +1,6 @@
 // MixColumns of the S-box, FIPS 197, 5.1.1 and 5.1.3: for each byte the column that its entry adds from row 0, 02, 01, 01 and 03 times
 // that entry.
+// Handed out by a function, as in `sbox`.
 ghost use Rattle.primitives.specs.Inner.{CipherTable};
 
 use crate::state;

@@ -98,7 +98,7 @@ fn mix_columns(table: &Mixing, w: Columns) -> Columns
     t
 }
 
-// AddRoundKey with the key of round n, whose words are the columns. Here and below n is a number with a bound: a type for it would be made and proved in each turn of the two
+// AddRoundKey with the key of round n, whose words are the columns. The steps have the words and not the key that they stand in: how many rounds there are is not theirs to ask. Here and below n is a number with a bound: a type for it would be made and proved in each turn of the two
 // loops that count it, and say no more.
 pub(crate) fn add_round_key(words: &Words, n: usize, w: Columns) -> Columns
     requires { n ≤ Nr 8 }

@@ -23,7 +23,8 @@ pub enum NotOpened {
 }
 
 impl NotOpened {
-    // 02's number of the reason.
+    // 02's number of the reason. Each kind of reason has a method of this name, and `number` below is that of `strings` over another kind: a trait over the kinds would
+    // have a ghost number and a law for each, and be longer than they are.
     pub fn number(self) -> u32
         ensures { result ≡ refusal_number (why_of self) }
     {
@@ -110,7 +111,7 @@ fn open_blocks<S: Scheme>(
     Ok(())
 }
 
-// Writes the length of each payload of an opened run to the list.
+// Writes the length of each payload of an opened run to the list. By the block's number, as in the loops above, so that one form of invariant serves them all.
 fn put_lengths(run: &[u8], lengths: &mut [u16])
     requires { length run.now ≡ 512 * length lengths.old }
     ensures { lengths.new ≡ blockwise (λ i B. used B ∷ []) (length lengths.old) run.now }

@@ -40,7 +40,7 @@ fn seal_block<S: Scheme>(expanded: ExpandedKey, u: usize, position: Position, bl
     pack::cipher::encipher::<S>(expanded, position, block);
 }
 
-// Seals the blocks in turn.
+// Seals the blocks in turn, each lent by its place, as in `opening`.
 fn seal_blocks<S: Scheme>(expanded: ExpandedKey, start: Position, lengths: &[u16], run: &mut [u8])
     requires { Sealable start.place lengths.now run.old }
     ensures { run.new ≡ sealed_run (S.under expanded) [] start.pack start.place lengths.now run.old }

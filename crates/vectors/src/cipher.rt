@@ -25,11 +25,7 @@ impl TryFrom<u8> for Way {
 
 // Answers a command of AES behind its key, or writes nothing. For more digits than a block's there is no room.
 pub(crate) fn reply(rt: &impl Print, way: Way, key: &[u8], rest: &[u8]) -> Option<()> {
-    let mut bytes = [0u8; 16];
-    let field = fields::last_field(rest, &mut bytes)?;
-    if field.len() < 16 {
-        return None;
-    }
+    let bytes = fields::last_whole_field::<16>(rest)?;
     let block = Block::read(&bytes, 0);
     match (ExpandedKey::new(key), way) {
         (Ok(expanded), Way::Encipher) => fields::put_block(rt, expanded.encipher(block)),

@@ -28,6 +28,16 @@ pub(crate) fn last_field<'b>(line: &[u8], out: &'b mut [u8]) -> Option<&'b mut [
     Some(&mut out[..n])
 }
 
+// Decodes the last field of a line where it has N bytes, no less.
+pub(crate) fn last_whole_field<const N: usize>(line: &[u8]) -> Option<[u8; N]> {
+    let mut bytes = [0u8; N];
+    let field = last_field(line, &mut bytes)?;
+    if field.len() < N {
+        return None;
+    }
+    Some(bytes)
+}
+
 // Decodes a field of N bytes, no less, and answers them and what follows.
 fn whole_field<const N: usize>(line: &[u8]) -> Option<([u8; N], &[u8])> {
     let mut bytes = [0u8; N];
@@ -55,15 +65,14 @@ pub(crate) fn position(line: &[u8]) -> Option<(Position, &[u8])> {
 // Decodes the blocks that stand in `line`, one space between two, to the front of `data`, and answers their bytes. A field that is
 // not a block is refused, and so is one block more than `data` has room for.
 pub(crate) fn blocks_from<'b>(line: &[u8], data: &'b mut [u8]) -> Option<&'b [u8]> {
-    let mut n = 0;
-    for field in line.split(|c| *c == b' ') {
-        let block = data.get_mut(n..n + 16)?;
+    let count = line.split(|c| *c == b' ').count();
+    let data = data.get_mut(..count.checked_mul(16)?)?;
+    for (field, block) in line.split(|c| *c == b' ').zip(data.chunks_exact_mut(16)) {
         if text::hex::decode(field, block)? != 16 {
             return None;
         }
-        n += 16;
     }
-    Some(&data[..n])
+    Some(data)
 }
 
 // Reads the entries of a list from its bytes, two for each, to the front of `list`. An odd number of bytes is no list.
@@ -125,7 +134,8 @@ pub(crate) fn put_refusal(rt: &impl Print, why: Refusal) {
 }
 
 // Writes the answer of a call: the bytes, or `no` and the number of the refusal. Where the line lent the bytes, it is the number and
-// the bytes as they are left, refused or not.
+// the bytes as they are left, refused or not. `lent` comes here from the line's first letter, and nothing else asks for it but the sealing, whose
+// line has a field more.
 pub(crate) fn put_answer(rt: &impl Print, lent: bool, answer: Result<(), Refusal>, bytes: &[u8]) {
     if lent {
         put_number(rt, refusal::number(answer) as u64);

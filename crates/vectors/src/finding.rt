@@ -5,13 +5,8 @@ use crate::{BYTES, fields};
 // Answers the command, or writes nothing. The place ends the line.
 pub(crate) fn reply(rt: &impl Print, rest: &[u8]) -> Option<()> {
     let mut pack = fields::room::<u8, BYTES>(0);
-    let mut bytes = [0u8; 4];
     let (pack, rest) = fields::field(rest, &mut pack)?;
-    let place = fields::last_field(rest, &mut bytes)?;
-    if place.len() < 4 {
-        return None;
-    }
-    let place = u32::from_be_bytes(bytes);
+    let place = u32::from_be_bytes(fields::last_whole_field(rest)?);
     let answer = layout::find_answer(pack, place);
     fields::put_answer(rt, false, answer, layout::find(pack, place));
     Some(())

@@ -119,7 +119,8 @@ fn reply(rt: &impl Print, line: &[u8]) -> Option<()> {
     }
 }
 
-// A command under a key of any length. Those of `l` and `g` lend their bytes. The letters are read here and in `reply`, by patterns: an enum for the first would be matched once more.
+// A command under a key of any length. Those of `l` and `g` lend their bytes. The first letter is read here, by a pattern: an enum for it would be matched once more. `rt`, the key and the rest of the line
+// go together from here on; a struct of them would be made here and taken apart in each.
 fn run_keyed(rt: &impl Print, first: u8, second: u8, rest: &[u8]) -> Option<()> {
     let mut key = fields::room::<u8, BYTES>(0);
     let (key, rest) = fields::field(rest, &mut key)?;
@@ -135,7 +136,7 @@ fn run_keyed(rt: &impl Print, first: u8, second: u8, rest: &[u8]) -> Option<()> 
     }
 }
 
-// A command that is on a message or of a pack, as its second letter says.
+// A command that is on a message or of a pack, as its second letter says: each kind reads it as its own `Way`.
 fn run_either<S: Scheme>(
     rt: &impl Print,
     letter: u8,
@@ -149,7 +150,7 @@ fn run_either<S: Scheme>(
     sealing::reply::<S>(rt, letter.try_into().ok()?, lent, key, rest)
 }
 
-// A command on blocks.
+// A command on blocks, by its letter and the number of their bytes.
 fn run_blocks(rt: &impl Print, letter: u8, rest: &[u8]) -> Option<()> {
     let mut bytes = fields::room::<u8, BYTES>(0);
     let bytes = fields::blocks_from(rest, &mut bytes)?;

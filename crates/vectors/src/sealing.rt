@@ -4,6 +4,7 @@ use layout::Position;
 use schemes::Scheme;
 
 // What is done with a block, or with a run of blocks: a letter of the line, with one `match` in each command, as in `cipher`.
+// A type of its own, since the two share no value.
 #[derive(Clone, Copy, Debug, PartialEq, Eq)]
 pub(crate) enum Way {
     Seal,
