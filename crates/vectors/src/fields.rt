@@ -134,8 +134,8 @@ pub(crate) fn put_refusal(rt: &impl Print, why: Refusal) {
 }
 
 // Writes the answer of a call: the bytes, or `no` and the number of the refusal. Where the line lent the bytes, it is the number and
-// the bytes as they are left, refused or not. `lent` comes here from the line's first letter, and nothing else asks for it but the sealing, whose
-// line has a field more.
+// the bytes as they are left, refused or not. `lent` comes here from the line's first letter; beside
+// this only the commands of a pack ask for it, where the rest of the line or the answer differs.
 pub(crate) fn put_answer(rt: &impl Print, lent: bool, answer: Result<(), Refusal>, bytes: &[u8]) {
     if lent {
         put_number(rt, refusal::number(answer) as u64);
