@@ -46,8 +46,8 @@ finished E times_x h τ β₁ β M X s l =
     rw (part_behind 32 s, put_back 32 s t, drop_at (take 32 s) t 32 front) (written_two (Υ h τ (X.0 ⊕ β) (X.1 ⊕ β) (blocks t)) (take 32 s) t front)
 
 -- The first two blocks read where they stand.
-read_two_lem : (s : List ℕ) → 32 ≤ length s → first_block (drop 16 s) ≡ number (take 16 (drop 16 s))
-read_two_lem s l = block_first (drop 16 s) (rw length-drop (omega (arith, l)))
+second_block : (s : List ℕ) → 32 ≤ length s → first_block (drop 16 s) ≡ number (take 16 (drop 16 s))
+second_block s l = block_first (drop 16 s) (rw length-drop (omega (arith, l)))
 
 -- Table 1, both ways.
 pub enciphering : (E times_x : ℕ → ℕ) (h : ℕ → List ℕ → ℕ) (T : ℕ) (s : List ℕ) → 32 ≤ length s
@@ -56,7 +56,7 @@ pub enciphering : (E times_x : ℕ → ℕ) (h : ℕ → List ℕ → ℕ) (T : 
     let B = Feistel E h K.τ' A.0 A.1 in
     from_m E times_x h K.τ K.β₁ K.β₂ (A.0 ⊕ A.1 ⊕ B.0 ⊕ B.1) B (drop 32 s) ≡ encipher E times_x h T s
 unfolding encipher from_m mctr_bytes masked_bytes MCTR
-enciphering E times_x h T s l = rw (block_first s (omega (arith, l)), read_two_lem s l)
+enciphering E times_x h T s l = rw (block_first s (omega (arith, l)), second_block s l)
 
 pub deciphering : (E times_x : ℕ → ℕ) (h : ℕ → List ℕ → ℕ) (T : ℕ) (s : List ℕ) → 32 ≤ length s
     → let K = KeyDef1 E times_x T (8 * length s) in
@@ -64,4 +64,4 @@ pub deciphering : (E times_x : ℕ → ℕ) (h : ℕ → List ℕ → ℕ) (T : 
     let A = swapped_feistel E h K.τ' B.0 B.1 in
     from_m E times_x h K.τ K.β₁ K.β₁ (A.0 ⊕ A.1 ⊕ B.0 ⊕ B.1) A (drop 32 s) ≡ decipher E times_x h T s
 unfolding decipher from_m mctr_bytes masked_bytes MCTR
-deciphering E times_x h T s l = rw (block_first s (omega (arith, l)), read_two_lem s l)
+deciphering E times_x h T s l = rw (block_first s (omega (arith, l)), second_block s l)

@@ -113,8 +113,7 @@ fn key_expansion(key: &[u8], nk: usize) -> state::Words
     for i in nk..4 * (nk + 7) {
         w = words[i - nk] ^ temp(table, nk, place, w);
         words[i] = w;
-        let behind = next_place(nk, place);
-        place = behind;
+        place = next_place(nk, place);
     }
     words
 }
@@ -153,7 +152,7 @@ impl ExpandedKey {
         })
     }
 
-    // Cipher, 5.1. Here and in its inverse rounds go by their number, as in FIPS 197.
+    // Cipher, 5.1. Here and in its inverse rounds go by their number, as in FIPS 197, and the state of a round has a name first: the checker covers no call whose result is laid in an array.
     fn cipher(&self, w: state::Columns) -> state::Columns
         ensures { of_columns result ≡ cipher (round_key self.now.words) (rounds_done self.now.rounds) (of_columns w) }
     {

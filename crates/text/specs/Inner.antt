@@ -41,7 +41,7 @@ unfoldable pub kept_with : List ℕ → Option ℕ → List ℕ → Option ℕ
 kept_with line (Some n) more = cond (leb (n + length more) (length line)) (Some (n + length more)) None
 kept_with line None more = None
 
--- The line that is kept. So is none of which more characters are said to be kept than `line` has.
+-- The line that is kept: none where it is too long, or where `line` has fewer characters than are said to be kept.
 abbrev pub line_of : List ℕ → Option ℕ → Option (List ℕ)
 line_of line (Some n) = cond (leb n (length line)) (Some (take n line)) None
 line_of line None = None

@@ -4,8 +4,8 @@ ghost use Rattle.std.specs.Prelude.{◌≡◌, Some, option_map};
 ghost use Rattle.text.specs.Inner.{line_with, kept_with, line_of, is_empty};
 
 // The line under way: its characters stand at the front of `chars`, and `kept` says how many they
-// are, or `None` where the line is too long for `chars`, as it then stays. A number past the end of
-// `chars` is kept of no line.
+// are, or `None` where the line is too long for `chars`, as it then stays. Where the number is past
+// the end of `chars`, no line is kept.
 #[derive(Clone, Copy)]
 pub struct LineBuffer<const N: usize> {
     pub chars: [u8; N],

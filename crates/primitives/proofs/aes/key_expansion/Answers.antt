@@ -14,8 +14,8 @@ loop-i-preserved c =
     let last : l.i + 1 - 1 ≡ l.i = omega arith in (
       put_next 60 a.nk a.key.now l.i l.words l.invariant.0 v (omega arith) (omega arith) l.invariant.4 (rw (c.temp.ensures, ← l.invariant.2, l.invariant.1)),
       rw last (sym (get_or-set_same l.words l.i v 0 (rw (length_held 60 a.nk a.key.now l.i l.words l.invariant.0 (omega arith)) (omega arith)))),
-      ap (λ (n : ℕ). n + 1) l.invariant.2 ∙ sym c.next_place-behind.ensures.m_value,
-      c.next_place-behind.ensures.m_lt_nk,
+      ap (λ (n : ℕ). n + 1) l.invariant.2 ∙ sym c.next_place-place.ensures.m_value,
+      c.next_place-place.ensures.m_lt_nk,
       omega arith,
       omega arith,
     )
