@@ -29,6 +29,7 @@ use Rattle.blocks.proofs.Horner.{power_sum_below}
 use Rattle.primitives.proofs.Theorems as Aes
 use Rattle.hch.specs.Hch.{length_block, H, Ctr, encipher, Parts, enciphered_by, deciphered_by, enciphered, deciphered, hch}
 use Rattle.hch.specs.Expanded.{hch_under}
+use Rattle.hch.proofs.Call.{key_first}
 use Rattle.hch.specs.Theorems.{Theorems}
 use Rattle.hch.proofs.Scheme.{scheme_cipher}
 
@@ -83,4 +84,5 @@ theorems = record {
   hch_cipher = hch_cipher;
   one_plaintext = one_plaintext;
   same_expanded = same_expanded;
+  key_first = key_first;
 }

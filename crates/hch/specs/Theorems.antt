@@ -1,5 +1,5 @@
 -- The theorems of this crate, each by name. One value of this record, proofs/Theorems.antt, proves them all.
-use Rattle.std.specs.Prelude.{ℕ, ◌≤◌, ◌≡◌, true, List, [], length}
+use Rattle.std.specs.Prelude.{ℕ, ◌≤◌, ◌≡◌, true, cond, Err, List, [], length}
 use Rattle.strings.specs.Xor.{◌⊕◌}
 use Rattle.strings.specs.Bytes.{OfLength, number, bytes}
 use Rattle.blocks.specs.BlockField.{times_x, power_sum}
@@ -10,6 +10,8 @@ use Rattle.blocks.specs.BlockCipher.{BlockCipher, BlockPermutation}
 use Rattle.primitives.specs.Expanded.{expanded_key}
 use Rattle.hch.specs.Hch.{length_block, Parts, encipher, decipher, enciphered, deciphered, hch}
 use Rattle.hch.specs.Expanded.{hch_under}
+use Rattle.hch.specs.Call.{answer_of, answer_behind_key}
+use Rattle.strings.specs.declared.refusal.Refusal.TheVariants.{KeyLength}
 
 pub record Theorems : Type 0 where
   -- For every block permutation, step by x and keyed sum that keep blocks, every tweak and every n from 16 on: HCH keeps the messages of n bytes,
@@ -32,3 +34,5 @@ pub record Theorems : Type 0 where
       → (C : List ℕ) → OfLength n C → OnePreimage n (enciphered key tweak) C (deciphered key tweak C)
   -- HCH under what is made of a key, of either length, is HCH under the key.
   pub same_expanded : (key : List ℕ) → hch.is_key key ≡ true → Same (hch_under (expanded_key key)) [] hch key
+  -- A call tells a wrong key first; behind a right one it answers as under the expanded key.
+  pub key_first : (key tweak message : List ℕ) → answer_of key tweak message ≡ cond (hch.is_key key) (answer_behind_key tweak message) (Err KeyLength)

@@ -9,7 +9,7 @@ ghost use Rattle.blocks.specs.Counter.{masked_bytes, φ};
 ghost use Rattle.blocks.specs.Inner.{value};
 ghost use Rattle.primitives.specs.Inner.{Table, of_columns};
 ghost use Rattle.primitives.specs.Aes.{s_box, sub_word, rcon, temp, key_words, round_key, cipher, inv_cipher, is_key};
-ghost use Rattle.primitives.specs.Expanded.{held_words, expansion_of, rounds_done, under};
+ghost use Rattle.primitives.specs.Expanded.{held_words, expanded_key, expansion_of, rounds_done, under};
 
 use crate::{field, sbox, state};
 use blocks::block::Block;
@@ -139,17 +139,30 @@ fn rounds_done(rounds: usize) -> usize
 }
 
 impl ExpandedKey {
-    // Expands a key, by its length one of 16 bytes or of 32; any other string is refused.
+    // Expands a key, by its length one of 16 bytes or of 32; from any other string come zeros and no rounds. Which it was only the rounds say: `new` refuses what is no key.
+    pub fn or_zeros(key: &[u8]) -> ExpandedKey
+        ensures { result ≡ expanded_key key.now }
+    {
+        if !is_key(key) {
+            return ExpandedKey {
+                words: [0; 60],
+                rounds: 0,
+            };
+        }
+        let nk = key.len() / 4;
+        let words = key_expansion(key, nk);
+        ExpandedKey {
+            words,
+            rounds: nk + 6,
+        }
+    }
+
+    // Expands a key; any other string is refused.
     pub fn new(key: &[u8]) -> Result<ExpandedKey, Refusal>
         ensures { result ≡ expansion_of key.now }
     {
         refuse_if(!is_key(key), Refusal::KeyLength)?;
-        let nk = key.len() / 4;
-        let words = key_expansion(key, nk);
-        Ok(ExpandedKey {
-            words,
-            rounds: nk + 6,
-        })
+        Ok(ExpandedKey::or_zeros(key))
     }
 
     // Cipher, 5.1. Here and in its inverse rounds go by their number, as in FIPS 197, and the state of a round has a name first: the checker covers no call whose result is laid in an array.

@@ -1,7 +1,7 @@
 // What a tweakable enciphering scheme over AES is to its callers, the two schemes that there are, and the calls under a key, written once for both.
 #![tactic(auto)]
 
-ghost use Rattle.std.specs.Prelude.{ℕ, ◌≤◌, ◌≡◌, [], cond, length, Ok, Err, IfOk};
+ghost use Rattle.std.specs.Prelude.{ℕ, ◌≤◌, ◌≡◌, true, [], cond, length, Ok, Err, IfOk};
 ghost use Rattle.strings.specs.Cipher.{TweakableCipher, Scheme as TheScheme, Same};
 ghost use Rattle.strings.specs.Call.{number_of, looks_at, left_by};
 ghost use Rattle.strings.specs.Message.{tests, tests_behind_key, IsCipher, OnePlaintext};
@@ -53,6 +53,7 @@ pub trait Scheme {
 }
 
 // HCH.
+#[derive(Clone, Copy)]
 pub struct Hch;
 
 impl Scheme for Hch {
@@ -84,6 +85,7 @@ impl Scheme for Hch {
 }
 
 // The encryption-only scheme.
+#[derive(Clone, Copy)]
 pub struct Forward;
 
 impl Scheme for Forward {
@@ -129,6 +131,15 @@ pub fn expand<S: Scheme>(key: &[u8]) -> Result<ExpandedKey, Refusal>
     ensures by_index { IfOk result (λ expanded. (n : ℕ) → S.least ≤ n → TweakableCipher 16 n ((S.under expanded).encipher []) ((S.under expanded).decipher [])) }
 {
     ExpandedKey::new(key)
+}
+
+// Expands a key as `expand` does; from any other string come zeros, under which the scheme is a tweakable cipher too.
+pub fn expand_or_zeros<S: Scheme>(key: &[u8]) -> ExpandedKey
+    ensures value { result ≡ expanded_key key.now }
+    ensures same { S.scheme.is_key key.now ≡ true → Same (S.under result) [] S.scheme key.now }
+    ensures by_index { (n : ℕ) → S.least ≤ n → TweakableCipher 16 n ((S.under result).encipher []) ((S.under result).decipher []) }
+{
+    ExpandedKey::or_zeros(key)
 }
 
 // Enciphers the message in place, or refuses and leaves it as it is.

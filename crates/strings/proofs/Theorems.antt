@@ -3,6 +3,7 @@
 use Rattle.strings.specs.Theorems.{Theorems}
 use Rattle.strings.proofs.Xor.{xor_assoc, xor_comm, xor_zero, xor_self, xor_below}
 use Rattle.strings.proofs.Bytes.{number-bytes, bytes-number, bytes_xor}
+use Rattle.strings.proofs.Refusals.{in_turn_lem}
 use Rattle.strings.proofs.One as One
 
 pub theorems : Theorems
@@ -19,4 +20,5 @@ theorems = record {
   count_strings = One.count_strings;
   two_parts = λ m n f g s t. One.two_parts;
   one_preimage = λ n f g. One.one_preimage;
+  tests_one_by_one = in_turn_lem;
 }

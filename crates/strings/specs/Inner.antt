@@ -13,7 +13,7 @@ unfoldable pub overwrite : ℕ → List ℕ → List ℕ → List ℕ
 overwrite i t s = take i s ++ (take (length s - i) t ++ drop (i + length t) s)
 
 -- An answer after one test more: a refusal stays, and else the test decides.
-unfoldable pub refuse_if : Answer → Bool → Refusal → Answer
+abbrev pub refuse_if : Answer → Bool → Refusal → Answer
 refuse_if (Ok a) holds why = cond holds (Err why) (Ok tt)
 refuse_if (Err first) holds why = Err first
 

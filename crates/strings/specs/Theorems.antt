@@ -1,6 +1,8 @@
 -- The theorems of this crate, each by name. One value of this record, proofs/Theorems.antt, proves them all.
-use Rattle.std.specs.Prelude.{ℕ, ◌+◌, ◌%◌, ◌^◌, ◌<◌, ◌≡◌, Bool, ◌&&◌, List, ◌++◌, length, take, drop}
+use Rattle.std.specs.Prelude.{ℕ, ◌+◌, ◌%◌, ◌^◌, ◌<◌, ◌≡◌, Bool, ◌&&◌, Ok, List, ◌++◌, length, take, drop}
 use Rattle.strings.specs.Xor.{◌⊕◌, xor_bytes}
+use Rattle.strings.specs.Call.{Tests, looks_at}
+use Rattle.strings.specs.Inner.{in_turn}
 use Rattle.strings.specs.Bytes.{Bytes, OfLength, number, bytes}
 use Rattle.strings.specs.Cipher.{Cipher}
 use Rattle.strings.specs.One.{ExactlyOne, count, OneString, OnePreimage}
@@ -25,3 +27,5 @@ pub record Theorems : Type 0 where
       → OneString (m + n) (λ u. f (take m u) && g (drop m u)) (s ++ t)
   -- A cipher of n bytes sends exactly one string of n bytes to each.
   pub one_preimage : (n : ℕ) (f g : List ℕ → List ℕ) → Cipher n f g → (s : List ℕ) → OfLength n s → OnePreimage n f s (g s)
+  -- Tests one by one, as the calls of all crates make them, answer as the first that holds does.
+  pub tests_one_by_one : (tests : Tests) → in_turn (Ok tt) tests ≡ looks_at tests

@@ -1,6 +1,7 @@
 // Why a call was not done, and the number that an answer has in C.
-ghost use Rattle.std.specs.Prelude.{◌≡◌, cond};
+ghost use Rattle.std.specs.Prelude.{◌≡◌};
 ghost use Rattle.strings.specs.Call.{refusal_number, number_of};
+ghost use Rattle.strings.specs.Inner.{refuse_if};
 
 // The reasons of 01 and 02, each with its number there. Number 9 is the program's.
 #[derive(Clone, Copy, Debug, PartialEq, Eq)]
@@ -38,9 +39,9 @@ pub fn number<T: Copy>(answer: Result<T, Refusal>) -> u32
     }
 }
 
-// A test of a call: where it holds, the call is refused.
+// A test of a call: where it holds, the call is refused. By `?` the next one is looked at only where none held so far, so tests one by one are `in_turn`.
 pub fn refuse_if(holds: bool, why: Refusal) -> Result<(), Refusal>
-    ensures { result ≡ cond holds (Err why) (Ok tt) }
+    ensures { result ≡ refuse_if (Ok tt) holds why }
 {
     if holds { Err(why) } else { Ok(()) }
 }

@@ -42,5 +42,5 @@ returns c =
       used = rw (ends, found.0) (add-one _);
       keeps = rw ends c.clear.ensures.none_kept;
       collected = c.clear.ensures.chars_kept ∙ chars;
-      answered = rw ends (rw (chars, kept) at c.answer_kept-written.ensures);
+      answered = rw (ends, ← chars, ← kept) c.answer_kept-written.ensures;
     }
