@@ -95,12 +95,12 @@ fn read(command: Command, fields: &[u8], out: &mut [u8; ROOM]) -> Result<usize, 
     ensures { Answered (requested ((character command ∷ []) ∷ split 32 fields.now)) result out.old out.new }
 {
     let mut key = [0u8; BYTES];
-    let mut tweak = [0u8; BYTES];
-    let mut message = [0u8; BYTES];
     let k = read_field(fields, &mut key)?;
     let fields = &fields[2 * k + 1..];
+    let mut tweak = [0u8; BYTES];
     let t = read_field(fields, &mut tweak)?;
     let digits = &fields[2 * t + 1..];
+    let mut message = [0u8; BYTES];
     let m = text::hex::decode(digits, &mut message).ok_or(NoResult::NotUnderstood)?;
     run(command, &key[..k], &tweak[..t], &mut message[..m], out)
 }

@@ -6,12 +6,12 @@ use schemes::Scheme;
 
 // Answers a command of a run, or writes nothing.
 pub(crate) fn reply<S: Scheme>(rt: &impl Print, way: Way, key: &[u8], rest: &[u8]) -> Option<()> {
-    let mut bytes = fields::room::<u8, BYTES>(0);
-    let mut list = fields::room::<u16, ENTRIES>(0);
-    let mut run = fields::room::<u8, BYTES>(0);
     let (start, rest) = fields::position(rest)?;
+    let mut bytes = fields::room::<u8, BYTES>(0);
     let (bytes, rest) = fields::field(rest, &mut bytes)?;
+    let mut list = fields::room::<u16, ENTRIES>(0);
     let lengths = fields::list_from(bytes, &mut list)?;
+    let mut run = fields::room::<u8, BYTES>(0);
     let run = fields::last_field(rest, &mut run)?;
     match way {
         Way::Seal => {

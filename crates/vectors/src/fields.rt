@@ -1,6 +1,7 @@
 // The fields of a line, and the line of an answer.
-ghost use Rattle.std.specs.Prelude.{◌≡◌, length};
+ghost use Rattle.std.specs.Prelude.{◌≡◌, ◌^◌, ◌<◌, length};
 
+use crate::{BYTES, ROOM};
 use blocks::block::Block;
 use layout::Position;
 use strings::refusal::{self, Refusal};
@@ -96,28 +97,58 @@ pub(crate) fn put_number(rt: &impl Print, n: u64) {
     let _ = print!(rt; "{n} ");
 }
 
-// Writes the digits of bytes, those of a block at a time.
-#[tactic(auto, unfolding(text::specs::Inner::fitting))]
-fn put_digits(rt: &impl Print, bytes: &[u8]) {
-    for part in bytes.chunks(512) {
-        let mut digits = [0u8; 1024];
-        let n = text::hex::encode(part, &mut digits);
-        put(rt, &digits[..n]);
+// Writes the digits of bytes and one character behind them in one write, by way of `out`, which is lent full of that character.
+fn put_by(rt: &impl Print, bytes: &[u8], out: &mut [u8]) {
+    let n = text::hex::encode(bytes, out);
+    if n < out.len() {
+        put(rt, &out[..n + 1]);
     }
 }
 
-// Writes a list, and a space.
-pub(crate) fn put_list(rt: &impl Print, list: &[u16]) {
-    for entry in list {
-        put_digits(rt, &entry.to_be_bytes());
+// The same by way of an array of N characters. A function of its own for each N, since filling a large array takes longer than all else of a short answer.
+fn put_within<const N: usize>(rt: &impl Print, bytes: &[u8], end: u8)
+    requires { N < 2 ^ 63 }
+{
+    put_by(rt, bytes, &mut room::<u8, N>(end));
+}
+
+// Writes the digits of bytes and `end` behind them: of a block, of a message, or of all that a line stands for.
+fn put_bytes(rt: &impl Print, bytes: &[u8], end: u8) {
+    match bytes.len() {
+        0..=512 => put_within::<1025>(rt, bytes, end),
+        513..=4096 => put_within::<8193>(rt, bytes, end),
+        _ => put_within::<ROOM>(rt, bytes, end),
     }
-    put(rt, b" ");
+}
+
+// Writes a list, and a space, by way of `bytes`, which is lent with room for its entries.
+fn put_list_by(rt: &impl Print, list: &[u16], bytes: &mut [u8]) {
+    for (pair, entry) in bytes.chunks_exact_mut(2).zip(list) {
+        let [high, low] = entry.to_be_bytes();
+        pair[0] = high;
+        pair[1] = low;
+    }
+    put_bytes(rt, &bytes[..2 * list.len().min(bytes.len() / 2)], b' ');
+}
+
+// The same by way of an array of N bytes.
+fn put_list_within<const N: usize>(rt: &impl Print, list: &[u16])
+    requires { N < 2 ^ 63 }
+{
+    put_list_by(rt, list, &mut room::<u8, N>(0));
+}
+
+// Writes a list, and a space: of no more entries than a run has blocks, or of all that a line stands for.
+pub(crate) fn put_list(rt: &impl Print, list: &[u16]) {
+    match list.len() {
+        0..=128 => put_list_within::<256>(rt, list),
+        _ => put_list_within::<BYTES>(rt, list),
+    }
 }
 
 // Writes bytes as the end of an answer.
 pub(crate) fn put_line(rt: &impl Print, bytes: &[u8]) {
-    put_digits(rt, bytes);
-    put(rt, b"\n");
+    put_bytes(rt, bytes, b'\n');
 }
 
 // Writes a block as a line.

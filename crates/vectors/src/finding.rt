@@ -17,9 +17,9 @@ pub(crate) fn reply(rt: &impl Print, rest: &[u8]) -> Option<()> {
 // written.
 pub(crate) fn reply_lent(rt: &impl Print, rest: &[u8]) -> Option<()> {
     let mut pack = fields::room::<u8, BYTES>(0);
-    let mut block = fields::room::<u8, BYTES>(0);
     let (pack, rest) = fields::field(rest, &mut pack)?;
     let (place, rest) = fields::place(rest)?;
+    let mut block = fields::room::<u8, BYTES>(0);
     let block = fields::last_field(rest, &mut block)?;
     let answer = layout::find_answer(pack, place);
     strings::places::write(layout::find_mut(pack, place), 0, block);

@@ -59,6 +59,9 @@ const BYTES: usize = LIMIT / 2;
 // The most entries of a list that they stand for.
 const ENTRIES: usize = BYTES / 2;
 
+// The most characters that are written at once: the digits of so many bytes, and the line feed or the space behind them.
+const ROOM: usize = LIMIT + 1;
+
 // The most bytes that are read at once.
 const CHUNK: usize = 65536;
 
