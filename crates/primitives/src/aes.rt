@@ -139,7 +139,7 @@ fn rounds_done(rounds: usize) -> usize
 }
 
 impl ExpandedKey {
-    // Expands a key, by its length one of 16 bytes or of 32; from any other string come zeros and no rounds. Which it was only the rounds say: `new` refuses what is no key.
+    // Expands a key, by its length one of 16 bytes or of 32; from any other string come zeros, and only the number of rounds, 0, tells that. `new` refuses it.
     pub fn or_zeros(key: &[u8]) -> ExpandedKey
         ensures { result ≡ expanded_key key.now }
     {

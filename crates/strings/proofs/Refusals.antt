@@ -11,7 +11,7 @@ use Rattle.strings.specs.declared.refusal.Refusal.{Refusal}
 use Rattle.strings.specs.declared.refusal.Refusal.TheVariants.{KeyLength, TweakLength, TooShort, TooLong, PayloadTooLong, PlaceTooHigh, BlockLength, CheckFailed, PackLength, ListLength, Blank, ForwardTooShort}
 use Rattle.std.specs.Prelude.{cond, ⊤, Result, Ok, Err}
 use Rattle.strings.specs.Call.{Answer, refusal_number, number_of, Tests, looks_at, left_by}
-use Rattle.strings.specs.Inner.{refuse_if, in_turn}
+use Rattle.strings.specs.Inner.{in_turn}
 
 -- A refusal's number is not that of a call that was done, nor 9, which is the program's; and 13 is the highest.
 pub refusal_range : (why : Refusal) → (0 < refusal_number why) × (refusal_number why ≤ 13) × (refusal_number why ≡ 9 → ⊥)
@@ -39,12 +39,12 @@ number_range (Err why) = omega (arith, (refusal_range why).1)
 -- ---- tests one by one
 
 refused_stays : (why : Refusal) (tests : Tests) → in_turn (Err why) tests ≡ Err why
-unfolding in_turn refuse_if
+unfolding in_turn
 refused_stays why [] = refl
 refused_stays why (t ∷ tests) = refused_stays why tests
 
 pub in_turn_lem : (tests : Tests) → in_turn (Ok tt) tests ≡ looks_at tests
-unfolding in_turn refuse_if
+unfolding in_turn
 in_turn_lem [] = refl
 in_turn_lem ((true, why) ∷ tests) = refused_stays why tests
 in_turn_lem ((false, why) ∷ tests) = in_turn_lem tests
